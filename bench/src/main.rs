@@ -1,0 +1,211 @@
+//! ns per pixel (and iteration, where there are some) of the proved library and of the Rust original, and their ratio.
+//! Each row is the least of several rounds in which the two take turns. Buffers are warm and not cleared between runs.
+
+#[allow(dead_code)]
+#[path = "../../oracle/src/ffi.rs"]
+mod ffi;
+#[allow(dead_code)]
+#[path = "../../oracle/src/random.rs"]
+mod random;
+
+use ffi::*;
+use qr_lab_image::{Gray8View, Gray8ViewMut};
+use qr_lab_imgproc::deblur::{self, DirectionalUnsharpConfig, LineBorderMode, VanCittertConfig};
+use qr_lab_imgproc::{blur, sharpen};
+use random::Random;
+use std::hint::black_box;
+use std::time::Instant;
+
+const SIDE: usize = 1024;
+const PIXELS: usize = SIDE * SIDE;
+const ROUNDS: usize = 9;
+
+/// A label: modules of 8 pixels, black or white, smeared along the rows over 9 pixels, with a little noise.
+fn label(random: &mut Random) -> Vec<u8> {
+    let modules: Vec<i32> = (0..(SIDE / 8 + 1) * (SIDE / 8)).map(|_| 40 + 170 * random.below(2) as i32).collect();
+    let sharp = |x: usize, y: usize| modules[y / 8 * (SIDE / 8 + 1) + x / 8];
+    (0..PIXELS)
+        .map(|place| {
+            let (x, y) = (place % SIDE, place / SIDE);
+            let sum: i32 = (0..9).map(|k| sharp(x.saturating_sub(k), y)).sum();
+            (sum / 9 + random.below(5) as i32) as u8
+        })
+        .collect()
+}
+
+fn noise(random: &mut Random) -> Vec<u8> {
+    (0..PIXELS).map(|_| random.below(256) as u8).collect()
+}
+
+/// The least time of one run, in ns.
+fn least(times: &mut [f64], run: &mut dyn FnMut(), round: usize) {
+    let start = Instant::now();
+    run();
+    times[round] = start.elapsed().as_nanos() as f64;
+}
+
+fn row(only: &str, name: &str, work: usize, mut ours: impl FnMut(), mut theirs: impl FnMut()) {
+    if !name.contains(only) {
+        return;
+    }
+    let (mut mine, mut other) = ([0.0; ROUNDS], [0.0; ROUNDS]);
+    for round in 0..ROUNDS {
+        least(&mut mine, &mut ours, round);
+        least(&mut other, &mut theirs, round);
+    }
+    let best = |times: &[f64]| times.iter().copied().fold(f64::INFINITY, f64::min) / work as f64;
+    let (mine, other) = (best(&mine), best(&other));
+    println!("{name:<44} {mine:>8.2} {other:>8.2} {:>8.2}", other / mine);
+}
+
+fn main() {
+    let only = std::env::args().nth(1).unwrap_or_default();
+    let mut random = Random::new(1);
+    let pictures = [("label", label(&mut random)), ("noise", noise(&mut random))];
+    let mut dst = vec![0u8; PIXELS];
+    let mut other = vec![0u8; PIXELS];
+    println!("{:<44} {:>8} {:>8} {:>8}", "ns a pixel (and iteration)", "ours", "Rust", "ratio");
+
+    row(&only, "copy of the bytes", PIXELS, || dst.copy_from_slice(black_box(&pictures[0].1)), || other.copy_from_slice(black_box(&pictures[0].1)));
+    for (kind, data) in &pictures {
+        let view = Gray8View::new(data, SIDE, SIDE, SIDE).unwrap();
+        row(
+            &only,
+            &format!("direction, {kind}"),
+            PIXELS,
+            || unsafe {
+                let (mut d, mut a, mut c, mut e) = (0, 0, 0, 0);
+                smear_estimate_line_direction(data.as_ptr(), PIXELS, SIDE, SIDE, SIDE, &mut d, &mut a, &mut c, &mut e);
+                black_box((d, a, c, e));
+            },
+            || {
+                black_box(blur::estimate_line_direction(view));
+            },
+        );
+    }
+    let data = &pictures[0].1;
+    let view = Gray8View::new(data, SIDE, SIDE, SIDE).unwrap();
+    let mut scratch = vec![0u16; PIXELS];
+    let mut workspace = Default::default();
+    row(
+        &only,
+        "binomial",
+        PIXELS,
+        || unsafe {
+            smear_fixed_binomial_unsharp(
+                data.as_ptr(), PIXELS, SIDE, SIDE, SIDE, dst.as_mut_ptr(), PIXELS, SIDE, SIDE, SIDE, scratch.as_mut_ptr(), PIXELS,
+            );
+        },
+        || {
+            let view_mut = Gray8ViewMut::new(&mut other, SIDE, SIDE, SIDE).unwrap();
+            sharpen::fixed_binomial_unsharp_into(view, view_mut, &mut workspace).unwrap();
+        },
+    );
+    lengths(&only, &pictures);
+    restorations(&only, data, &mut dst, &mut other);
+    whole_jobs(&only, data, &mut dst, &mut other);
+}
+
+const DIRECTIONS: [(&str, f64); 4] = [("Horizontal", 0.0), ("DownRight", 0.75), ("Vertical", 1.5), ("DownLeft", 2.25)];
+const BORDERS: [(&str, LineBorderMode); 3] = [("Replicate", LineBorderMode::Replicate), ("Reflect", LineBorderMode::Reflect), ("Constant", LineBorderMode::Constant(128))];
+
+/// The length of a smear, in each direction; stripes of one pixel give the most swings that a picture can have.
+fn lengths(only: &str, pictures: &[(&str, Vec<u8>); 2]) {
+    let stripes: Vec<u8> = (0..PIXELS).map(|place| if (place % SIDE + place / SIDE * 2) % 4 < 2 { 255 } else { 0 }).collect();
+    let mut swings = vec![Swing { width: 0.0, swing: 0 }; PIXELS];
+    for (kind, data) in [(pictures[0].0, &pictures[0].1), (pictures[1].0, &pictures[1].1), ("stripes", &stripes)] {
+        let view = Gray8View::new(data, SIDE, SIDE, SIDE).unwrap();
+        for (direction, angle) in DIRECTIONS {
+            row(
+                only,
+                &format!("length, {kind}, {direction}"),
+                PIXELS,
+                || unsafe {
+                    let mut length = 0.0;
+                    smear_estimate_line_length(data.as_ptr(), PIXELS, SIDE, SIDE, SIDE, angle, 8, 24, swings.as_mut_ptr(), PIXELS, &mut length);
+                    black_box(length);
+                },
+                || {
+                    black_box(blur::estimate_line_length(view, angle));
+                },
+            );
+        }
+    }
+}
+
+/// Restoration and line unsharp, in each direction and border.
+fn restorations(only: &str, data: &[u8], dst: &mut [u8], other: &mut [u8]) {
+    let view = Gray8View::new(data, SIDE, SIDE, SIDE).unwrap();
+    let mut scratch = vec![0i32; 3 * PIXELS];
+    let mut workspace = Default::default();
+    let mut used = 0;
+    for (number, (border_name, border)) in BORDERS.into_iter().enumerate() {
+        for (direction, angle) in DIRECTIONS {
+            for (length, iterations, relaxation) in [(9, 3, 1.0), (31, 10, 1.0), (31, 10, 0.7), (255, 3, 1.0)] {
+                let config = VanCittertConfig { theta_radians: angle, blur_length: length, iterations, relaxation, border };
+                row(
+                    only,
+                    &format!("restore {length} x{iterations} at {relaxation}, {direction}, {border_name}"),
+                    PIXELS * iterations,
+                    || unsafe {
+                        smear_van_cittert_line(
+                            data.as_ptr(), PIXELS, SIDE, SIDE, SIDE, dst.as_mut_ptr(), PIXELS, SIDE, SIDE, SIDE,
+                            angle, length, iterations, relaxation, number as u8, 128, scratch.as_mut_ptr(), scratch.len(), &mut used,
+                        );
+                    },
+                    || {
+                        let view_mut = Gray8ViewMut::new(other, SIDE, SIDE, SIDE).unwrap();
+                        deblur::van_cittert_line_into(view, view_mut, &config, &mut workspace).unwrap();
+                    },
+                );
+            }
+            let config = DirectionalUnsharpConfig { theta_radians: angle, blur_length: 9, gain: 1.5, border };
+            row(
+                only,
+                &format!("unsharp 9, {direction}, {border_name}"),
+                PIXELS,
+                || unsafe {
+                    smear_directional_unsharp_line(
+                        data.as_ptr(), PIXELS, SIDE, SIDE, SIDE, dst.as_mut_ptr(), PIXELS, SIDE, SIDE, SIDE,
+                        angle, 9, 1.5, number as u8, 128, scratch.as_mut_ptr(), scratch.len(), &mut used,
+                    );
+                },
+                || {
+                    let view_mut = Gray8ViewMut::new(other, SIDE, SIDE, SIDE).unwrap();
+                    deblur::directional_unsharp_line_into(view, view_mut, &config, &mut workspace).unwrap();
+                },
+            );
+        }
+    }
+}
+
+/// The whole job, against the Rust's three calls in a row.
+fn whole_jobs(only: &str, data: &[u8], dst: &mut [u8], other: &mut [u8]) {
+    let view = Gray8View::new(data, SIDE, SIDE, SIDE).unwrap();
+    let mut scratch = vec![0i32; 3 * PIXELS];
+    let mut swings = vec![Swing { width: 0.0, swing: 0 }; PIXELS];
+    let mut workspace = Default::default();
+    for iterations in [3, 10] {
+        row(
+            only,
+            &format!("whole job x{iterations}, label"),
+            PIXELS,
+            || unsafe {
+                let (mut direction, mut length, mut estimate) = (0, 0, 0.0);
+                smear_restore(
+                    data.as_ptr(), PIXELS, SIDE, SIDE, SIDE, dst.as_mut_ptr(), PIXELS, SIDE, SIDE, SIDE, 8, 24, iterations, 1.0, 0, 0,
+                    scratch.as_mut_ptr(), scratch.len(), swings.as_mut_ptr(), swings.len(), &mut direction, &mut length, &mut estimate,
+                );
+                black_box((direction, length, estimate));
+            },
+            || {
+                let theta_radians = blur::estimate_line_direction(view).theta_radians;
+                let length = blur::estimate_line_length(view, theta_radians).unwrap();
+                let blur_length = (length.ceil() as usize | 1).max(3);
+                let config = VanCittertConfig { theta_radians, blur_length, iterations, relaxation: 1.0, border: LineBorderMode::Replicate };
+                let view_mut = Gray8ViewMut::new(other, SIDE, SIDE, SIDE).unwrap();
+                deblur::van_cittert_line_into(view, view_mut, &config, &mut workspace).unwrap();
+            },
+        );
+    }
+}

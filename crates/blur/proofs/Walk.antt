@@ -1,0 +1,10 @@
+-- Parts of walks over slices of structs. None says anything of what the structs are.
+--     Loop     a loop with a state and a measure.        Fold, Times     the states of two loops, with their laws
+--     Lend     a row of elements is lent for one call, as a `&mut [T]` or as a `&[T]`; a local array as such a row
+--     Call     what a callee asks, and what it has answered.        Lists    laws on lists
+pub mod Call
+pub mod Fold
+pub mod Lend
+pub mod Lists
+pub mod Loop
+pub mod Times

@@ -1,0 +1,42 @@
+-- `blur::scan::next` meets its contract: what `next_swing` says, with the number of swings and the strongest. Assumes nothing.
+use mathlib.Core.Path.{_∙_, ap₂}
+use native.Mathlib.Omega.{arith}
+use borrow.Author.Needs.{needs}
+use borrow.Author.Tests.{not-true, not-false}
+use mir.Syntax.{w32}
+use mir.ValLaws.{toZ-ofZ}
+use Rattle.blur.specs.Median.{larger}
+use Rattle.blur.proofs.Scans.{scan-stops, scan-goes}
+use Rattle.blur.proofs.scan.next.Statement.{statement}
+use Rattle.blur.proofs.scan.next.Tie as tie
+
+next-swing-requires : tie.Need-next-swing-requires
+next-swing-requires c κs = search needs
+
+returns : tie.Need-returns
+returns c =
+    let n = c .before .before .before in
+    let k = n .before .before in
+    scan-stops (k .before .args .«data» .now) (k .before .args .course) (k .before .args .s) (n .next-swing .result) (n .next-swing .ensures)
+    (λ i. omega (arith, k .shared-slice-known .given i)) (not-true _ (c .if1 .taken)) _ _
+
+stronger-requires : tie.Need-stronger-requires
+stronger-requires c κs = search needs
+
+add-count : tie.Need-add-count
+add-count c = search needs
+
+returns-2 : tie.Need-returns-2
+returns-2 c =
+    let g = c .before .before in
+    let t = g .before .before .before in
+    let n = t .before .before .before in
+    let k = n .before .before in
+    scan-goes (k .before .args .«data» .now) (k .before .args .course) (k .before .args .s) (n .next-swing .result) (n .next-swing .ensures)
+    (λ i. omega (arith, k .shared-slice-known .given i)) (not-false _ (t .if1 .left))
+    (toZ-ofZ w32 _ (record { sfits = g .stronger .ok })
+    ∙ g .stronger .ensures
+    ∙ ap₂ larger (toZ-ofZ w32 (k .before .args .s .strongest) (record { sfits = omega (arith, g .before .before .struct-told .given) })) (toZ-ofZ w32 (n .next-swing .result .swing .swing) (record { sfits = omega (arith, g .before .struct-told2 .given) })))
+
+pub next-spec : {M : Type 1} → statement M
+next-spec = tie.close (tie.spec next-swing-requires returns stronger-requires add-count returns-2)

@@ -1,0 +1,14 @@
+-- `blur::select::kept_of` meets its contract: the two arms are the definition's.
+use mathlib.Core.Path.{refl}
+use borrow.Author.Tests.{eq-eqb, ne-eqb}
+use Rattle.blur.proofs.select.kept_of.Statement.{statement}
+use Rattle.blur.proofs.select.kept_of.Tie as tie
+
+returns : tie.Need-returns
+returns c = rw (eq-eqb _ 52 (c .if1 .taken)) refl
+
+returns-2 : tie.Need-returns-2
+returns-2 c = rw (ne-eqb _ 52 (c .if1 .left)) refl
+
+pub kept-of-spec : {M : Type 1} → statement M
+kept-of-spec = tie.close (tie.spec returns returns-2)

@@ -1,0 +1,10 @@
+-- What the contracts of `blur` cite.
+pub mod Length
+pub mod Line
+pub mod Median
+pub mod Rise
+pub mod Runs
+pub mod Scan
+pub mod Select
+pub mod Swings
+pub mod Tensor

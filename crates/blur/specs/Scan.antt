@@ -1,0 +1,101 @@
+-- What the answers of the scan's functions say, in terms of the runs and swings that are left. Only contracts inside the crate cite these.
+use Prim.Native.Nat.{ℕ, _+_, _-_, _≤_, _<_}
+use mathlib.Core.Path.{_≡_}
+use mathlib.Core.Bool.{Bool, true, false, cond}
+use mathlib.Core.List.{List, [], _∷_}
+use lib.IntN.{pos}
+use lib.ListN.{length, getD, take}
+use lib.Ieee.{Float, binary64, ofBits}
+use Rattle.blur.specs.declared.swings.Swing.{Swing}
+use Rattle.blur.specs.declared.scan.RunEnd.{RunEnd}
+use Rattle.blur.specs.declared.scan.OnLine.{OnLine}
+use Rattle.blur.specs.declared.scan.OnLine.the-variants.{Next, End}
+use Rattle.blur.specs.declared.scan.Course.{Course}
+use Rattle.blur.specs.declared.scan.Spotted.{Spotted}
+use Rattle.blur.specs.declared.scan.Scan.{Scan}
+use Rattle.blur.specs.declared.scan.Scanned.{Scanned}
+use Rattle.blur.specs.Line.{Lines, linesOn}
+use Rattle.blur.specs.Runs.{Run, Slope, Level, Rising, Falling, runsFrom, runsUpTo}
+use Rattle.blur.specs.Swings.{lineSwings, swingsAt}
+use Rattle.blur.specs.Median.{larger, strongest}
+
+-- ---- the run from sample a
+
+-- its first samples are level up to sample r, and the next one differs
+pub record LevelTo (x : ℕ → ℕ) (last a r : ℕ) : Type 0 where
+  pub from : a ≤ r
+  pub within : r ≤ last
+  pub runs : runsUpTo x last a ≡ runsFrom x a Level r (last - r)
+  pub differs : r < last → x r ≡ x (r + 1) → ⊥
+
+abbrev pub slopeOf : Bool → Slope
+slopeOf true = Rising
+slopeOf false = Falling
+
+-- from sample i on, where it rises or falls, it goes on to sample r
+pub record SlopeTo (x : ℕ → ℕ) (last i : ℕ) (rising : Bool) (r : ℕ) : Type 0 where
+  pub from : i ≤ r
+  pub within : r ≤ last
+  pub runs : (a : ℕ) → runsFrom x a (slopeOf rising) i (last - i) ≡ record { first = a; last = r } ∷ runsUpTo x last r
+
+-- it ends at sample b, where the others start, or there is none
+abbrev pub runsBy : (ℕ → ℕ) → ℕ → ℕ → RunEnd → List Run
+runsBy x last a (RunEnd.At b) = record { first = a; last = b } ∷ runsUpTo x last b
+runsBy x last a RunEnd.Level = []
+
+abbrev pub endWithin : ℕ → ℕ → RunEnd → Type 0
+endWithin a last (RunEnd.At b) = (a < b) × (b ≤ last)
+endWithin a last RunEnd.Level = Unit {0}
+
+pub record RunTo (x : ℕ → ℕ) (last a : ℕ) (r : RunEnd) : Type 0 where
+  pub runs : runsUpTo x last a ≡ runsBy x last a r
+  pub within : endWithin a last r
+
+-- ---- the swings from a place on: the next one and those from the next place on, or none
+abbrev pub saidOnLine : ℕ → Float → (ℕ → ℕ) → ℕ → OnLine → List Swing
+saidOnLine least pixel x n (Next s b) = s ∷ lineSwings least pixel x n b
+saidOnLine least pixel x n End = []
+
+abbrev pub said : ℕ → Float → Lines → Spotted → List Swing
+said least pixel lines r = cond (r .on) (r .swing ∷ swingsAt least pixel lines (r .next)) []
+
+-- ---- the scan
+
+-- the swings that are left
+abbrev pub rest : List ℕ → Course → Scan → List Swing
+rest bytes c s = swingsAt (c .«minimum_amplitude») (c .pixel) (linesOn bytes c) (s .place)
+
+abbrev pub begun : Scanned
+begun = record {
+  on = true;
+  at = 0;
+  swing = record { width = ofBits binary64 0; swing = pos 0 };
+  next = record { place = record { line = 0; at = 0 }; strongest = pos 0; count = 0 };
+}
+
+-- the answer is the next swing, and where it is stored
+pub record Goes (bytes : List ℕ) (c : Course) (s : Scan) (r : Scanned) : Type 0 where
+  pub list : rest bytes c s ≡ r .swing ∷ rest bytes c (r .next)
+  pub at : r .at ≡ s .count
+  pub count : r .next .count ≡ s .count + 1
+  pub top : r .next .strongest ≡ larger (s .strongest) (r .swing .swing)
+
+-- the answer is that there is none
+pub record Stops (bytes : List ℕ) (c : Course) (s : Scan) (r : Scanned) : Type 0 where
+  pub list : rest bytes c s ≡ []
+  pub same : r .next ≡ s
+
+abbrev pub Bytes : List ℕ → Type 0
+Bytes bytes = (i : ℕ) → getD bytes i 0 ≤ 255
+
+pub record Scans (bytes : List ℕ) (c : Course) (s : Scan) (r : Scanned) : Type 0 where
+  pub goes : r .on ≡ true → Goes bytes c s r
+  pub stops : r .on ≡ false → Stops bytes c s r
+  pub are : Bytes bytes
+
+-- The swings ss stand in order at the front of the records, and their number and the strongest of them are known.
+pub record Filled (bytes : List ℕ) (ss behind : List Swing) (s : Scan) : Type 0 where
+  pub counted : s .count ≡ length ss
+  pub listed : take (length ss) behind ≡ ss
+  pub top : s .strongest ≡ strongest ss
+  pub are : Bytes bytes

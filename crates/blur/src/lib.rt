@@ -1,0 +1,11 @@
+// Measuring the smear of a picture: its direction and its length.
+pub mod length;
+mod rises;
+mod scan;
+mod select;
+pub mod swings;
+pub mod tensor;
+
+pub use length::estimate_line_length;
+pub use length::estimate_line_length_with;
+pub use tensor::estimate_line_direction;

@@ -1,0 +1,261 @@
+// The scan of a picture's lines for swings (document 01, Length): from a place to the next run that has a rise.
+ghost use mathlib.Core.Path.{_≡_};
+ghost use Prim.Native.Nat.{_+_, _-_, _*_, _≤_, _<_, _^_};
+ghost use lib.ListN.{length};
+ghost use Rattle.blur.specs.Line.{sample, linesOn, InCourse};
+ghost use Rattle.blur.specs.Runs.{stepOf, turnsAt};
+ghost use Rattle.blur.specs.Swings.{scaledBy, lineSwings, swingsAt};
+ghost use Rattle.blur.specs.Scan.{slopeOf, LevelTo, SlopeTo, RunTo, saidOnLine, said, Scans, begun};
+use crate::rises::Rise;
+use crate::rises::rise_of;
+use crate::rises::sample_at;
+use crate::select::stronger;
+use crate::swings::Swing;
+use raster::direction::RasterDirection4;
+use raster::lines::line_at;
+
+// Where a run ends. A line that never changes has none.
+pub enum RunEnd {
+    At(usize),
+    Level,
+}
+
+// The next swing of a line, with the sample where the next run starts.
+pub enum OnLine {
+    Next(Swing, usize),
+    End,
+}
+
+// What is scanned: `count` lines of a picture's direction. The next place of a line stands `step` bytes on, `pixel` pixels
+// away. `refusal` is the number of a refusal, and 0 for none.
+pub struct Course {
+    pub refusal: u8,
+    pub direction: RasterDirection4,
+    pub width: usize,
+    pub height: usize,
+    pub stride: usize,
+    pub count: usize,
+    pub step: usize,
+    pub pixel: f64,
+    pub minimum_amplitude: u8,
+}
+
+// A line, and a sample of it at which a run starts.
+pub struct Place {
+    pub line: usize,
+    pub at: usize,
+}
+
+pub struct Spotted {
+    pub on: bool,
+    pub swing: Swing,
+    pub next: Place,
+}
+
+// How far a scan is: where it goes on, how many swings there were, and the strongest of them.
+pub struct Scan {
+    pub place: Place,
+    pub strongest: i32,
+    pub count: usize,
+}
+
+// An answer of a scan: a swing to be stored at place `at`, or none. `next` is where the scan goes on.
+pub struct Scanned {
+    pub on: bool,
+    pub at: usize,
+    pub swing: Swing,
+    pub next: Scan,
+}
+
+// The last sample of those that are level from sample a on, on a line up to sample `last`.
+fn level_end(data: &[u8], start: usize, step: usize, last: usize, a: usize) -> usize
+    requires { ⌜ (a ≤ last) × (start + last * step < length (now «data»)) ⌝ }
+    ensures { λ r. ⌜ LevelTo (sample (now («data» .entry)) start step) last a r ⌝ }
+{
+    let v = sample_at(data, start, step, a);
+    let mut i = a;
+    while i < last {
+        if sample_at(data, start, step, i + 1) != v {
+            return i;
+        }
+        i += 1;
+    }
+    i
+}
+
+// Whether a run that rises, or falls, ends before the step from v to w.
+fn turns(rising: bool, v: u8, w: u8) -> bool
+    ensures { λ r. ⌜ r ≡ turnsAt (slopeOf rising) (stepOf v w) ⌝ }
+{
+    if rising { w < v } else { v < w }
+}
+
+// Where a run ends that rises, or falls, up to sample `from`.
+fn slope_end(
+    data: &[u8],
+    start: usize,
+    step: usize,
+    last: usize,
+    from: usize,
+    rising: bool,
+) -> usize
+    requires { ⌜ (from ≤ last) × (start + last * step < length (now «data»)) ⌝ }
+    ensures { λ r. ⌜ SlopeTo (sample (now («data» .entry)) start step) last from rising r ⌝ }
+{
+    let mut v = sample_at(data, start, step, from);
+    let mut at = from;
+    while at < last {
+        let next = at + 1;
+        let w = sample_at(data, start, step, next);
+        if turns(rising, v, w) {
+            return at;
+        }
+        v = w;
+        at = next;
+    }
+    at
+}
+
+// Where the run that starts at sample a ends.
+fn run_end(data: &[u8], start: usize, step: usize, last: usize, a: usize) -> RunEnd
+    requires { ⌜ (a < last) × (start + last * step < length (now «data»)) ⌝ }
+    ensures { λ r. ⌜ RunTo (sample (now («data» .entry)) start step) last a r ⌝ }
+{
+    let i = level_end(data, start, step, last, a);
+    if last <= i {
+        return RunEnd::Level;
+    }
+    let rising = sample_at(data, start, step, i) < sample_at(data, start, step, i + 1);
+    RunEnd::At(slope_end(data, start, step, last, i + 1, rising))
+}
+
+fn scaled(s: Swing, pixel: f64) -> Swing
+    ensures { λ r. ⌜ r ≡ scaledBy pixel s ⌝ }
+{
+    Swing {
+        width: s.width * pixel,
+        swing: s.swing,
+    }
+}
+
+// The next swing of a line of n samples, from the run that starts at sample `from` on.
+fn next_on_line(
+    data: &[u8],
+    start: usize,
+    step: usize,
+    n: usize,
+    from: usize,
+    pixel: f64,
+    minimum_amplitude: u8,
+) -> OnLine
+    requires { ⌜ (n ≤ 2 ^ 53) × (start + (n - 1) * step < length (now «data»)) ⌝ }
+    ensures { λ r. ⌜ lineSwings «minimum_amplitude» pixel (sample (now («data» .entry)) start step) n from
+        ≡ saidOnLine «minimum_amplitude» pixel (sample (now («data» .entry)) start step) n r ⌝ }
+{
+    if n < 3 {
+        return OnLine::End;
+    }
+    let last = n - 1;
+    let mut a = from;
+    while a < last {
+        let RunEnd::At(b) = run_end(data, start, step, last, a) else {
+            return OnLine::End;
+        };
+        if let Rise::Found(s) = rise_of(data, start, step, a, b, minimum_amplitude) {
+            return OnLine::Next(scaled(s, pixel), b);
+        }
+        a = b;
+    }
+    OnLine::End
+}
+
+// The next swing of the lines, from a place on.
+fn next_swing(data: &[u8], course: Course, from: Place) -> Spotted
+    requires { ⌜ InCourse course (length (now «data»)) ⌝ }
+    ensures { λ r. ⌜ swingsAt (course .«minimum_amplitude») (course .pixel) (linesOn (now («data» .entry)) course) from
+        ≡ said (course .«minimum_amplitude») (course .pixel) (linesOn (now («data» .entry)) course) r ⌝ }
+{
+    let direction = course.direction;
+    let mut k = from.line;
+    let mut a = from.at;
+    while k < course.count {
+        let line = line_at(direction, course.width, course.height, k);
+        let start = line.row * course.stride + line.col;
+        let on = next_on_line(
+            data,
+            start,
+            course.step,
+            line.len,
+            a,
+            course.pixel,
+            course.minimum_amplitude,
+        );
+        if let OnLine::Next(swing, at) = on {
+            return Spotted {
+                on: true,
+                swing,
+                next: Place { line: k, at },
+            };
+        }
+        a = 0;
+        k += 1;
+    }
+    Spotted {
+        on: false,
+        swing: Swing {
+            width: 0.0,
+            swing: 0,
+        },
+        next: Place { line: k, at: 0 },
+    }
+}
+
+// The scan's next answer.
+pub(crate) fn next(data: &[u8], course: Course, s: Scan) -> Scanned
+    requires { ⌜ InCourse course (length (now «data»)) × (s .count < 2 ^ 63) ⌝ }
+    ensures { λ r. ⌜ Scans (now («data» .entry)) course s r ⌝ }
+{
+    let place = s.place;
+    let spotted = next_swing(data, course, place);
+    let swing = spotted.swing;
+    if !spotted.on {
+        return Scanned {
+            on: false,
+            at: s.count,
+            swing,
+            next: s,
+        };
+    }
+    let strongest = stronger(s.strongest, swing.swing);
+    let count = s.count + 1;
+    let place = spotted.next;
+    Scanned {
+        on: true,
+        at: s.count,
+        swing,
+        next: Scan {
+            place,
+            strongest,
+            count,
+        },
+    }
+}
+
+// Before the first answer: a scan that goes on from the first line. What it has to store, the first swing replaces.
+pub(crate) fn begin() -> Scanned
+    ensures { λ r. ⌜ r ≡ begun ⌝ }
+{
+    Scanned {
+        on: true,
+        at: 0,
+        swing: Swing {
+            width: 0.0,
+            swing: 0,
+        },
+        next: Scan {
+            place: Place { line: 0, at: 0 },
+            strongest: 0,
+            count: 0,
+        },
+    }
+}

@@ -1,0 +1,185 @@
+// The width at place count / 2 in ascending order, without sorting: radix selection over the widths' bit patterns,
+// five digits of 13 bits, the top digit first. A pass over the list counts the digits of the keys that are still in
+// question; the digit is chosen where the running sum of the counts goes past the wanted place.
+use crate::length::LengthAnswer;
+use crate::length::LineLength;
+use crate::scan::Scan;
+use crate::swings::Swing;
+ghost use mathlib.Core.Path.{_≡_};
+ghost use mathlib.Core.Bool.{cond, not, _&&_};
+ghost use Prim.Native.Nat.{_/_, _^_, _-_, _<_};
+ghost use lib.Dec.{T, eqb};
+ghost use lib.IntN.{pos, _*ℤ_};
+ghost use lib.Signed.{leZ};
+ghost use lib.ListN.{length, replicate};
+ghost use lib.Ieee.{binary64, isNan, nanBits, toBits};
+ghost use Rattle.blur.specs.Median.{larger};
+ghost use Rattle.blur.specs.Select.{pickFrom, isFirst, wanted, started, answered, Countable, Tallied, Narrowable, Narrows};
+
+// A pass: `count` records were counted so far, of those that stay and have the digits `prefix` above the digit at
+// `shift`. Of the keys with that prefix the one at `place` is wanted; `kept` swings stay in all.
+pub struct Pass {
+    pub strongest: i32,
+    pub prefix: u64,
+    pub shift: u32,
+    pub place: u32,
+    pub kept: u32,
+    pub count: u32,
+}
+
+pub struct Chosen {
+    pub digit: usize,
+    pub place: u32,
+}
+
+pub fn stronger(a: i32, b: i32) -> i32
+    ensures { λ r. ⌜ r ≡ larger a b ⌝ }
+{
+    if a <= b { b } else { a }
+}
+
+fn stays(swing: i32, strongest: i32) -> bool
+    ensures { λ r. ⌜ r ≡ leZ strongest (pos 2 *ℤ swing) ⌝ }
+{
+    strongest as i64 <= 2 * (swing as i64)
+}
+
+fn high_digits(width: f64, shift: u32) -> u64
+    requires { ⌜ T (not (isNan width)) × (shift < 64) ⌝ }
+    ensures { λ r. ⌜ r ≡ toBits binary64 width / 2 ^ shift ⌝ }
+{
+    f64::to_bits(width) >> shift
+}
+
+// 1 for a record that a pass counts and 0 for any other, so that `tally` has no branch to guess.
+fn counted(swing: i32, strongest: i32, high: u64, prefix: u64) -> u32
+    ensures { λ r. ⌜ r ≡ cond (leZ strongest (pos 2 *ℤ swing) && eqb (high / 8192) prefix) 1 0 ⌝ }
+{
+    if !stays(swing, strongest) {
+        return 0;
+    }
+    if high / 8192 != prefix {
+        return 0;
+    }
+    1
+}
+
+// One record's step in a pass.
+pub(crate) fn tally(s: Swing, a: Pass, counts: &mut [u32]) -> Pass
+    requires { ⌜ Countable s a (now counts) ⌝ }
+    ensures { λ r. ⌜ Tallied s a (now (counts .entry)) (now (counts .exit)) r ⌝ }
+{
+    let high = high_digits(s.width, a.shift);
+    let one = counted(s.swing, a.strongest, high, a.prefix);
+    let digit = (high % 8192) as usize;
+    counts[digit] += one;
+    let mut next = a;
+    next.count += one;
+    next
+}
+
+pub fn clear(counts: &mut [u32])
+    ensures { λ r. ⌜ now (counts .exit) ≡ replicate (length (now (counts .entry))) 0 ⌝ }
+{
+    let mut i = 0;
+    while i < counts.len() {
+        counts[i] = 0;
+        i += 1;
+    }
+}
+
+pub fn choose(counts: &[u32], place: u32) -> Chosen
+    ensures { λ r. ⌜ r ≡ pickFrom (now (counts .entry)) 0 place ⌝ }
+{
+    let mut digit = 0;
+    let mut left = place;
+    while digit < counts.len() {
+        let count = counts[digit];
+        if left < count {
+            return Chosen { digit, place: left };
+        }
+        left -= count;
+        digit += 1;
+    }
+    Chosen { digit: 0, place: 0 }
+}
+
+// The place in ascending order that the length is read from.
+fn middle(count: u32) -> u32
+    ensures { λ r. ⌜ r ≡ count / 2 ⌝ }
+{
+    count / 2
+}
+
+fn place_of(a: Pass) -> u32
+    ensures { λ r. ⌜ r ≡ wanted a ⌝ }
+{
+    if a.shift == 52 {
+        middle(a.count)
+    } else {
+        a.place
+    }
+}
+
+fn kept_of(a: Pass) -> u32
+    ensures { λ r. ⌜ r ≡ cond (isFirst a) (a .count) (a .kept) ⌝ }
+{
+    if a.shift == 52 { a.count } else { a.kept }
+}
+
+fn next_shift(shift: u32) -> u32
+    ensures { λ r. ⌜ r ≡ shift - 13 ⌝ }
+{
+    if shift < 13 { 0 } else { shift - 13 }
+}
+
+// After a pass: its digit joins the prefix, and the counts are 0 again for the next pass.
+pub(crate) fn narrow(a: Pass, counts: &mut [u32]) -> Pass
+    requires { ⌜ Narrowable a (now counts) ⌝ }
+    ensures { λ r. ⌜ Narrows a (now (counts .entry)) (now (counts .exit)) r ⌝ }
+{
+    let chosen = choose(counts, place_of(a));
+    clear(counts);
+    let mut next = a;
+    next.prefix = a.prefix * 8192 + chosen.digit as u64;
+    next.shift = next_shift(a.shift);
+    next.place = chosen.place;
+    next.kept = kept_of(a);
+    next.count = 0;
+    next
+}
+
+// Before the first pass, over the records of a scan.
+pub(crate) fn opened(s: Scan) -> Pass
+    ensures { λ r. ⌜ r ≡ started (s .strongest) ⌝ }
+{
+    Pass {
+        strongest: s.strongest,
+        prefix: 0,
+        shift: 52,
+        place: 0,
+        kept: 0,
+        count: 0,
+    }
+}
+
+// After the last pass: the prefix is the median's bit pattern.
+fn answer(a: Pass, minimum: usize) -> LineLength
+    requires { ⌜ T (not (nanBits binary64 (a .prefix))) ⌝ }
+    ensures { λ r. ⌜ r ≡ answered a minimum ⌝ }
+{
+    if a.kept == 0 {
+        return LineLength::Nothing;
+    }
+    if (a.kept as usize) < minimum {
+        return LineLength::Nothing;
+    }
+    LineLength::Found(f64::from_bits(a.prefix) / 0.6)
+}
+
+pub(crate) fn measured(a: Pass, minimum: usize) -> LengthAnswer
+    requires { ⌜ T (not (nanBits binary64 (a .prefix))) ⌝ }
+    ensures { λ r. ⌜ r ≡ LengthAnswer.Length (answered a minimum) ⌝ }
+{
+    LengthAnswer::Length(answer(a, minimum))
+}

@@ -1,0 +1,139 @@
+-- Document 01's cases of the mean, the restoration, the line unsharp and refusals 7 to 10.
+use mathlib.Core.Path.{_≡_, refl}
+use mathlib.Core.List.{List, [], _∷_, map}
+use Prim.Native.Nat.{ℕ}
+use lib.IntN.{ℤ, pos, negsuc}
+use lib.Ieee.{Float, binary64, ofBits}
+use lib.ListN.{getD}
+use Rattle.numbers.specs.Scalar.{clampByte}
+use Rattle.numbers.specs.Sum.{total}
+use Rattle.floats.specs.Factor.{within}
+use Rattle.image.specs.Refusal.{layoutRefusal, pairRefusal}
+use Rattle.image.specs.Picture.{pixel}
+use Rattle.raster.specs.Border.{borderMap}
+use Rattle.raster.specs.Lines.{startCol, startRow, lineOf}
+use Rattle.raster.specs.declared.border.LineBorderMode.the-variants.{Replicate, Constant}
+use Rattle.raster.specs.declared.direction.RasterDirection4.the-variants.{Horizontal, DownLeft}
+use Rattle.deblur.specs.declared.LineSettings.{LineSettings}
+use Rattle.deblur.specs.declared.LineFilter.{LineFilter}
+use Rattle.deblur.specs.declared.LineFilter.the-variants.{Restoration, Unsharp}
+use Rattle.deblur.specs.Line.{sample, window, mean, stepped, after}
+use Rattle.deblur.specs.Picture.{estimate, estimateOn}
+use Rattle.deblur.specs.Refusal.{settingsRefusal, filterRefusal, estimateRefusal}
+
+-- ---- "Mean along a line": samples −1, 0, 0, L = 3, middle: −1
+
+dip : ℕ → ℤ
+dip i = getD (negsuc 0 ∷ pos 0 ∷ pos 0 ∷ []) i (pos 0)
+
+floored : mean (borderMap Replicate 3) dip 3 1 ≡ negsuc 0
+unfolding mean window sample borderMap dip total
+floored = refl
+
+-- ---- "Restoration and line unsharp": row 10 10 40 10 10, L = 3, Replicate, Horizontal
+
+row : List ℕ
+row = 10 ∷ 10 ∷ 40 ∷ 10 ∷ 10 ∷ []
+
+-- the row's estimates after n iterations with q
+estimates : ℕ → ℕ → List ℤ
+unfolding estimate row
+estimates q n = map (λ c. estimate (pixel row 5) Horizontal 5 1 Replicate 3 q n c 0) (0 ∷ 1 ∷ 2 ∷ 3 ∷ 4 ∷ [])
+
+-- relaxation 1
+one : map clampByte (estimates 65536 1) ≡ 10 ∷ 0 ∷ 60 ∷ 0 ∷ 10 ∷ []
+unfolding estimates estimate estimateOn after stepped mean window sample borderMap total row startCol startRow lineOf
+one = refl
+
+two : estimates 65536 2 ≡ pos 14 ∷ negsuc 12 ∷ pos 80 ∷ negsuc 12 ∷ pos 14 ∷ []
+unfolding estimates estimate estimateOn after stepped mean window sample borderMap total row startCol startRow lineOf
+two = refl
+
+two-cut : map clampByte (estimates 65536 2) ≡ 14 ∷ 0 ∷ 80 ∷ 0 ∷ 14 ∷ []
+unfolding estimates estimate estimateOn after stepped mean window sample borderMap total row startCol startRow lineOf
+two-cut = refl
+
+-- gain 1.5
+unsharp : map clampByte (estimates 98304 1) ≡ 10 ∷ 0 ∷ 70 ∷ 0 ∷ 10 ∷ []
+unfolding estimates estimate estimateOn after stepped mean window sample borderMap total row startCol startRow lineOf
+unsharp = refl
+
+-- the diagonal 2 3 of the picture 1 2 over 3 4, outside which stands 9: 3 + (3 − (2 + 3 + 9) / 3)
+square : List ℕ
+square = 1 ∷ 2 ∷ 3 ∷ 4 ∷ []
+
+diagonal : estimate (pixel square 2) DownLeft 2 2 (Constant 9) 3 65536 1 0 1 ≡ pos 2
+unfolding estimate estimateOn after stepped mean window sample borderMap total square startCol startRow lineOf
+diagonal = refl
+
+-- ---- "Refusals"
+
+-- by the bits of the angle and of the factor
+settings : ℕ → ℕ → ℕ → (Float → LineFilter) → ℕ → LineSettings
+settings angle length iterations filter factor =
+    record {
+      «theta_radians» = ofBits binary64 angle;
+      «blur_length» = length;
+      iterations = iterations;
+      filter = filter (ofBits binary64 factor);
+      border = Replicate;
+    }
+
+-- angle 0.0, relaxation 1.0
+restoring : ℕ → ℕ → LineSettings
+unfolding settings
+restoring length iterations = settings 0 length iterations Restoration 0x3ff0_0000_0000_0000
+
+-- on 5 by 1, length 11 is accepted, 13 gives 7
+lengths : map (λ (length : ℕ). settingsRefusal 5 1 (restoring length 3)) (1 ∷ 2 ∷ 3 ∷ 4 ∷ 11 ∷ 12 ∷ 13 ∷ []) ≡ 7 ∷ 7 ∷ 0 ∷ 7 ∷ 0 ∷ 7 ∷ 7 ∷ []
+unfolding settingsRefusal settings restoring within ofBits
+lengths = refl
+
+-- the largest finite angle, infinity, not a number
+angles :
+    map (λ (angle : ℕ). settingsRefusal 5 1 (settings angle 3 3 Restoration 0)) (0x7fef_ffff_ffff_ffff ∷ 0x7ff0_0000_0000_0000 ∷ 0x7ff8_0000_0000_0000 ∷ [])
+    ≡ 0 ∷ 7 ∷ 7 ∷ []
+unfolding settingsRefusal settings within ofBits
+angles = refl
+
+-- relaxation −0.0, 1.0, the next double above it, not a number; gain 8.0 and the next
+relaxations :
+    map (λ (factor : ℕ). settingsRefusal 5 1 (settings 0 3 3 Restoration factor))
+    (0x8000_0000_0000_0000 ∷ 0x3ff0_0000_0000_0000 ∷ 0x3ff0_0000_0000_0001 ∷ 0x7ff8_0000_0000_0000 ∷ [])
+    ≡ 0 ∷ 0 ∷ 8 ∷ 8 ∷ []
+unfolding settingsRefusal settings within ofBits
+relaxations = refl
+
+gains :
+    map (λ (factor : ℕ). settingsRefusal 5 1 (settings 0 3 1 Unsharp factor)) (0x4020_0000_0000_0000 ∷ 0x4020_0000_0000_0001 ∷ []) ≡ 0 ∷ 8 ∷ []
+unfolding settingsRefusal settings within ofBits
+gains = refl
+
+-- 22 iterations are accepted, 23 give 9
+iteration-limits : map (λ (iterations : ℕ). settingsRefusal 5 1 (restoring 3 iterations)) (0 ∷ 1 ∷ 22 ∷ 23 ∷ []) ≡ 8 ∷ 0 ∷ 0 ∷ 9 ∷ []
+unfolding settingsRefusal settings restoring within ofBits
+iteration-limits = refl
+
+-- 10 on 5 by 1: scratch of 14 and 15, an estimate's destination of 4 and 5
+scratch-limits : map (filterRefusal 5 5 1 5 5 5 1 5 (restoring 3 3)) (14 ∷ 15 ∷ []) ≡ 10 ∷ 0 ∷ []
+unfolding filterRefusal pairRefusal layoutRefusal settingsRefusal settings restoring within ofBits
+scratch-limits = refl
+
+estimate-limits :
+    map (estimateRefusal 5 5 1 5 5 (restoring 3 3)) (14 ∷ 15 ∷ []) ≡ 10 ∷ 0 ∷ []
+unfolding estimateRefusal layoutRefusal settingsRefusal settings restoring within ofBits
+estimate-limits = refl
+
+destination-limits : map (λ (len : ℕ). estimateRefusal 5 5 1 5 len (restoring 3 3) 15) (4 ∷ 5 ∷ []) ≡ 10 ∷ 0 ∷ []
+unfolding estimateRefusal layoutRefusal settingsRefusal settings restoring within ofBits
+destination-limits = refl
+
+-- 7 comes before 8, 8 before 10, 9 before 10, 4 before all of them
+in-order :
+    map (λ (s : LineSettings). filterRefusal 5 5 1 5 5 5 1 5 s 14) (restoring 2 0 ∷ restoring 3 0 ∷ restoring 3 23 ∷ []) ≡ 7 ∷ 8 ∷ 9 ∷ []
+unfolding filterRefusal pairRefusal layoutRefusal settingsRefusal settings restoring within ofBits
+in-order = refl
+
+layout-first : filterRefusal 4 5 1 5 5 5 1 5 (restoring 2 23) 14 ≡ 4
+unfolding filterRefusal pairRefusal layoutRefusal settingsRefusal settings restoring within ofBits
+layout-first = refl

@@ -1,0 +1,3 @@
+-- What the contracts of `floats` cite.
+pub mod Factor
+pub mod Odd

@@ -1,0 +1,19 @@
+-- A chain of refusals: where it comes out as 0, and where the first of two decides.
+use Prim.Native.Nat.{ℕ, zero, suc, _<_}
+use native.Mathlib.Omega.{arith}
+use mathlib.Core.Bool.{Bool, true, false, cond}
+use mathlib.Core.Path.{_≡_, refl}
+use Rattle.image.specs.Refusal.{firstRefusal}
+
+-- a chain gives 0: its first test fails, and the rest gives 0
+pub cond-zero : (t : Bool) (n m : ℕ) → 0 < n → cond t n m ≡ 0 → (t ≡ false) × (m ≡ 0)
+cond-zero true n m h e = absurd (omega (arith, h, e))
+cond-zero false n m h e = (refl, e)
+
+pub first-zero : (a b : ℕ) → firstRefusal a b ≡ 0 → (a ≡ 0) × (b ≡ 0)
+first-zero zero b e = (refl, e)
+first-zero (suc a) b e = absurd (omega (arith, e))
+
+pub first-own : (a b : ℕ) → (a ≡ 0 → ⊥) → firstRefusal a b ≡ a
+first-own zero b h = absurd (h refl)
+first-own (suc a) b h = refl

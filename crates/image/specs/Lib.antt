@@ -1,0 +1,4 @@
+-- What the contracts of `image` cite.
+pub mod Refusal
+pub mod Picture
+pub mod View

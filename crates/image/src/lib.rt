@@ -1,0 +1,93 @@
+// Pictures in the caller's bytes: the layout's refusals, pixels and rows.
+ghost use mathlib.Core.Path.{_≡_};
+ghost use Rattle.image.specs.Refusal.{layoutRefusal, pairRefusal};
+ghost use Rattle.image.specs.Picture.{pixelOf, rowOf};
+
+pub mod view;
+
+pub use view::Gray8View;
+pub use view::Gray8ViewMut;
+
+// Refusals 1 to 4 of a picture in len bytes; 0 where it is accepted.
+pub fn layout_refusal(len: usize, width: usize, height: usize, stride: usize) -> u8
+    ensures { λ r. ⌜ r ≡ layoutRefusal len width height stride ⌝ }
+{
+    if width == 0 || height == 0 {
+        return 1;
+    }
+    if width > 1024 || height > 1024 {
+        return 2;
+    }
+    if stride < width {
+        return 3;
+    }
+    // A quotient, since stride * (height - 1) could wrap.
+    if len < width || (len - width) / stride < height - 1 {
+        return 4;
+    }
+    0
+}
+
+// Refusals 1 to 6 of a source and a destination; 0 where both are accepted and of one size.
+pub fn pair_refusal(
+    src_len: usize,
+    width: usize,
+    height: usize,
+    stride: usize,
+    dst_len: usize,
+    dst_width: usize,
+    dst_height: usize,
+    dst_stride: usize,
+) -> u8
+    ensures { λ r. ⌜ r ≡ pairRefusal «src_len» width height stride «dst_len» «dst_width» «dst_height» «dst_stride» ⌝ }
+{
+    let own = layout_refusal(src_len, width, height, stride);
+    if own != 0 {
+        return own;
+    }
+    if layout_refusal(dst_len, dst_width, dst_height, dst_stride) != 0 {
+        return 5;
+    }
+    if dst_width != width || dst_height != height {
+        return 6;
+    }
+    0
+}
+
+// A pixel, or that there is none at a place.
+pub enum Pixel {
+    Value(u8),
+    Outside,
+}
+
+// The pixel in column c and row r; none where the layout is refused, and outside the picture.
+pub fn pixel_of(
+    data: &[u8],
+    width: usize,
+    height: usize,
+    stride: usize,
+    c: usize,
+    r: usize,
+) -> Pixel
+    ensures { λ p. ⌜ p ≡ pixelOf (now («data» .entry)) width height stride c r ⌝ }
+{
+    if layout_refusal(data.len(), width, height, stride) != 0 {
+        return Pixel::Outside;
+    }
+    if c >= width || r >= height {
+        return Pixel::Outside;
+    }
+    Pixel::Value(data[r * stride + c])
+}
+
+// The pixels of a row, as a part of the picture's bytes; the empty part where the layout is refused or has no such row.
+pub fn row_of(data: &[u8], width: usize, height: usize, stride: usize, row: usize) -> &[u8]
+    ensures { λ r. ⌜ now r ≡ rowOf (now («data» .entry)) width height stride row ⌝ }
+{
+    if layout_refusal(data.len(), width, height, stride) != 0 || row >= height {
+        return &data[0..0];
+    }
+    let start = row * stride;
+    let end = start + width;
+    &data[start..end]
+}

@@ -1,0 +1,163 @@
+-- Laws of the sums of specs/Sum: `total` (of integers, from a start) and `count` (of naturals, from 0). Ends, parts, terms changed or bounded,
+-- sums of sums, multiples, constants, shifts. A pointwise premise asks only for the places that are summed.
+use mathlib.Core.Path.{_≡_, refl, sym, _∙_, ap, ap₂}
+use Prim.Native.Nat.{ℕ, zero, suc, _+_, _-_, _*_, _≤_, _<_, zero-le}
+use native.Mathlib.Nat.{add-zero, add-suc, add-le-add, le-refl, le-dest, suc-sub-suc, sub-zero}
+use native.Mathlib.Omega.{arith}
+use lib.IntN.{ℤ, pos, natAbs, negℤ, _+ℤ_, _-ℤ_, _*ℤ_, +ℤ-idl, +ℤ-idr, +ℤ-assoc, +ℤ-comm, negℤ-+ℤ, zero-*ℤ, *ℤ-zero}
+use lib.Signed.{_≤ℤ_, ≤ℤ-refl}
+use Rattle.numbers.specs.Sum.{total, count}
+use Rattle.numbers.proofs.Int.Ring.{+ℤ-swap, *ℤ-add, suc-*ℤ, sub-of-add}
+use Rattle.numbers.proofs.Int.Order.{+ℤ-mono}
+use Rattle.numbers.proofs.Int.Size.{natAbs-add}
+
+-- ---- total: its ends
+
+pub total-zero : (g : ℕ → ℤ) (a : ℕ) → total g a 0 ≡ pos 0
+unfolding total
+total-zero g a = refl
+
+pub total-next : (g : ℕ → ℤ) (a k : ℕ) → total g a (suc k) ≡ total g a k +ℤ g (a + k)
+unfolding total
+total-next g a k = refl
+
+pub total-first : (g : ℕ → ℤ) (a k : ℕ) → total g a (suc k) ≡ g a +ℤ total g (suc a) k
+unfolding total
+total-first g a zero = +ℤ-idl (g (a + 0)) ∙ ap g (add-zero a) ∙ sym (+ℤ-idr (g a))
+total-first g a (suc k) =
+    ap (_+ℤ g (a + suc k)) (total-first g a k)
+    ∙ +ℤ-assoc (g a) (total g (suc a) k) (g (a + suc k))
+    ∙ ap (λ (i : ℕ). g a +ℤ (total g (suc a) k +ℤ g i)) {x = a + suc k} {y = suc a + k} (omega arith)
+
+-- one step of a window: the next term comes in, the first goes out
+pub total-slide : (g : ℕ → ℤ) (a k : ℕ) → total g (suc a) k ≡ total g a k +ℤ g (a + k) -ℤ g a
+total-slide g a k =
+    sub-of-add (total g (suc a) k) (g a) (+ℤ-comm (total g (suc a) k) (g a) ∙ sym (total-first g a k) ∙ total-next g a k)
+
+pub total-split : (g : ℕ → ℤ) (a j k : ℕ) → total g a (j + k) ≡ total g a j +ℤ total g (a + j) k
+unfolding total
+total-split g a j zero = ap (total g a) (add-zero j) ∙ sym (+ℤ-idr (total g a j))
+total-split g a j (suc k) =
+    ap (total g a) (add-suc j k)
+    ∙ ap₂ _+ℤ_ (total-split g a j k) (ap g {x = a + (j + k)} {y = a + j + k} (omega arith))
+    ∙ +ℤ-assoc (total g a j) (total g (a + j) k) (g (a + j + k))
+
+-- ---- total: its terms changed or bounded
+
+pub total-same : (g h : ℕ → ℤ) (a k : ℕ) → ((i : ℕ) → a ≤ i → i < a + k → g i ≡ h i) → total g a k ≡ total h a k
+unfolding total
+total-same g h a zero e = refl
+total-same g h a (suc k) e =
+    ap₂ _+ℤ_ (total-same g h a k (λ i p q. e i p (omega arith))) (e (a + k) (omega arith) (omega arith))
+
+pub total-within : (g : ℕ → ℤ) (a k b : ℕ) → ((i : ℕ) → a ≤ i → i < a + k → natAbs (g i) ≤ b) → natAbs (total g a k) ≤ k * b
+unfolding total
+total-within g a zero b h = zero-le
+total-within g a (suc k) b h =
+    omega (arith, natAbs-add (total g a k) (g (a + k)), total-within g a k b (λ i p q. h i p (omega arith)), h (a + k) (omega arith) (omega arith))
+
+pub total-mono : (g h : ℕ → ℤ) (a k : ℕ) → ((i : ℕ) → a ≤ i → i < a + k → g i ≤ℤ h i) → total g a k ≤ℤ total h a k
+unfolding total
+total-mono g h a zero e = ≤ℤ-refl (pos 0)
+total-mono g h a (suc k) e =
+    +ℤ-mono (total-mono g h a k (λ i p q. e i p (omega arith))) (e (a + k) (omega arith) (omega arith))
+
+-- ---- total: sums of sums, multiples, constants, shifts
+
+pub total-add : (g h : ℕ → ℤ) (a k : ℕ) → total (λ i. g i +ℤ h i) a k ≡ total g a k +ℤ total h a k
+unfolding total
+total-add g h a zero = refl
+total-add g h a (suc k) =
+    ap (_+ℤ (g (a + k) +ℤ h (a + k))) (total-add g h a k) ∙ +ℤ-swap (total g a k) (total h a k) (g (a + k)) (h (a + k))
+
+pub total-neg : (g : ℕ → ℤ) (a k : ℕ) → total (λ i. negℤ (g i)) a k ≡ negℤ (total g a k)
+unfolding total
+total-neg g a zero = refl
+total-neg g a (suc k) = ap (_+ℤ negℤ (g (a + k))) (total-neg g a k) ∙ sym (negℤ-+ℤ (total g a k) (g (a + k)))
+
+pub total-sub : (g h : ℕ → ℤ) (a k : ℕ) → total (λ i. g i -ℤ h i) a k ≡ total g a k -ℤ total h a k
+total-sub g h a k = total-add g (λ i. negℤ (h i)) a k ∙ ap (total g a k +ℤ_) (total-neg h a k)
+
+pub total-scale : (z : ℤ) (g : ℕ → ℤ) (a k : ℕ) → total (λ i. z *ℤ g i) a k ≡ z *ℤ total g a k
+unfolding total
+total-scale z g a zero = sym (*ℤ-zero z)
+total-scale z g a (suc k) = ap (_+ℤ z *ℤ g (a + k)) (total-scale z g a k) ∙ sym (*ℤ-add z (total g a k) (g (a + k)))
+
+pub total-const : (z : ℤ) (a k : ℕ) → total (λ i. z) a k ≡ pos k *ℤ z
+unfolding total
+total-const z a zero = sym (zero-*ℤ z)
+total-const z a (suc k) = ap (_+ℤ z) (total-const z a k) ∙ sym (suc-*ℤ k z)
+
+pub total-shift : (g : ℕ → ℤ) (a m k : ℕ) → total (λ i. g (i + m)) a k ≡ total g (a + m) k
+unfolding total
+total-shift g a m zero = refl
+total-shift g a m (suc k) = ap₂ _+ℤ_ (total-shift g a m k) (ap g {x = a + k + m} {y = a + m + k} (omega arith))
+
+-- of naturals
+pub total-pos : (f : ℕ → ℕ) (a k : ℕ) → total (λ i. pos (f i)) a k ≡ pos (count (λ i. f (a + i)) k)
+unfolding total count
+total-pos f a zero = refl
+total-pos f a (suc k) = ap (_+ℤ pos (f (a + k))) (total-pos f a k)
+
+-- ---- count
+
+pub count-zero : (f : ℕ → ℕ) → count f 0 ≡ 0
+unfolding count
+count-zero f = refl
+
+pub count-next : (f : ℕ → ℕ) (k : ℕ) → count f (suc k) ≡ count f k + f k
+unfolding count
+count-next f k = refl
+
+pub count-split : (f : ℕ → ℕ) (j k : ℕ) → count f (j + k) ≡ count f j + count (λ i. f (j + i)) k
+unfolding count
+count-split f j zero = ap (count f) (add-zero j) ∙ sym (add-zero (count f j))
+count-split f j (suc k) = ap (count f) (add-suc j k) ∙ omega (arith, count-split f j k)
+
+pub count-same : (f g : ℕ → ℕ) (k : ℕ) → ((i : ℕ) → i < k → f i ≡ g i) → count f k ≡ count g k
+unfolding count
+count-same f g zero e = refl
+count-same f g (suc k) e = ap₂ _+_ (count-same f g k (λ i p. e i (omega arith))) (e k (omega arith))
+
+pub count-le : (f g : ℕ → ℕ) (k : ℕ) → ((i : ℕ) → i < k → f i ≤ g i) → count f k ≤ count g k
+unfolding count
+count-le f g zero e = le-refl 0
+count-le f g (suc k) e = add-le-add (count-le f g k (λ i p. e i (omega arith))) (e k (omega arith))
+
+pub count-add : (f g : ℕ → ℕ) (k : ℕ) → count (λ i. f i + g i) k ≡ count f k + count g k
+unfolding count
+count-add f g zero = refl
+count-add f g (suc k) = omega (arith, count-add f g k)
+
+pub count-scale : (m : ℕ) (f : ℕ → ℕ) (k : ℕ) → count (λ i. m * f i) k ≡ m * count f k
+unfolding count
+count-scale m f zero = omega arith
+count-scale m f (suc k) = omega (arith, count-scale m f k)
+
+pub count-const : (c k : ℕ) → count (λ i. c) k ≡ k * c
+unfolding count
+count-const c zero = omega arith
+count-const c (suc k) = omega (arith, count-const c k)
+
+pub count-within : (f : ℕ → ℕ) (k b : ℕ) → ((i : ℕ) → i < k → f i ≤ b) → count f k ≤ k * b
+count-within f k b h = rw (count-const b k) at (count-le f (λ i. b) k h)
+
+-- counts only grow
+pub count-mono : (f : ℕ → ℕ) {j k : ℕ} → j ≤ k → count f j ≤ count f k
+count-mono f {j} {k} h = go (le-dest h)
+  where
+    go : (d : ℕ) × (j + d ≡ k) → count f j ≤ count f k
+    go (d, e) = omega (arith, count-split f j d, ap (count f) e)
+
+-- the first term first
+pub count-first : (f : ℕ → ℕ) (k : ℕ) → count f (suc k) ≡ f 0 + count (λ i. f (suc i)) k
+unfolding count
+count-first f zero = omega arith
+count-first f (suc k) = omega (arith, count-first f k)
+
+-- the terms in the other order: g k + .. + g 1 is g 1 + .. + g k
+pub count-turned : (g : ℕ → ℕ) (k : ℕ) → count (λ i. g (k - i)) k ≡ count (λ i. g (suc i)) k
+unfolding count
+count-turned g zero = refl
+count-turned g (suc k) =
+    count-first (λ i. g (suc k - i)) k ∙ simp (suc-sub-suc, sub-zero) (omega (arith, count-turned g k))

@@ -1,0 +1,95 @@
+-- Laws of tests that `lib.Dec`, `borrow.Author.Tests` and `mathlib.Core.Bool` lack. In order: a test's two cases, with the
+-- equation; false is not true; tests that hold together are equal; `&&` and `||`; `cond`.
+--
+-- Not here: `ltb-true`, `lt-ltb` and their like, between a test and its fact (`borrow.Author.Tests`); `and-eq-true-iff`, `&&` into a pair
+-- and back, and `or-eq-true-iff` (`mathlib.Core.Bool`).
+use mathlib.Core.Path.{_≡_, refl, sym, _∙_}
+use mathlib.Core.Bool.{Bool, true, false, _&&_, _||_, cond, true≢false, false≢true}
+use mathlib.Core.Logic.{_⊎_, inl, inr, ⊎-elim}
+use Prim.Native.Nat.{ℕ}
+use borrow.Author.Tests.{eqb-true, eqb-false}
+use lib.Dec.{eqb}
+
+-- ---- two cases, with the equation
+
+pub bool-cases : (b : Bool) → (b ≡ true) ⊎ (b ≡ false)
+bool-cases true = inl refl
+bool-cases false = inr refl
+
+-- what holds where b is true and where it is false holds
+pub by-test {ℓ} : {P : Type ℓ} (b : Bool) → (b ≡ true → P) → (b ≡ false → P) → P
+by-test b f g = ⊎-elim f g (bool-cases b)
+
+-- ---- false is not true
+
+pub false-not-true : {b : Bool} → b ≡ false → b ≡ true → ⊥
+false-not-true e q = false≢true (sym e ∙ q)
+
+pub false-of-not : (b : Bool) → (b ≡ true → ⊥) → b ≡ false
+false-of-not true h = absurd (h refl)
+false-of-not false h = refl
+
+pub true-of-not : (b : Bool) → (b ≡ false → ⊥) → b ≡ true
+true-of-not true h = refl
+true-of-not false h = absurd (h refl)
+
+-- tests that hold together are equal
+pub bool-ext : (a b : Bool) → (a ≡ true → b ≡ true) → (b ≡ true → a ≡ true) → a ≡ b
+bool-ext true b f g = sym (f refl)
+bool-ext false b f g = sym (false-of-not b (λ e. false≢true (g e)))
+
+-- ---- `&&` and `||`
+
+pub and-false-left : {a : Bool} (b : Bool) → a ≡ false → (a && b) ≡ false
+and-false-left b e = rw e
+
+pub and-false-right : (a : Bool) {b : Bool} → b ≡ false → (a && b) ≡ false
+and-false-right true e = e
+and-false-right false e = refl
+
+pub and-false-cases : (a b : Bool) → (a && b) ≡ false → (a ≡ false) ⊎ (b ≡ false)
+and-false-cases true b e = inr e
+and-false-cases false b e = inl refl
+
+pub or-cases : (a b : Bool) → (a || b) ≡ true → (a ≡ true) ⊎ (b ≡ true)
+or-cases true b e = inl refl
+or-cases false b e = inr e
+
+pub or-false-intro : {a b : Bool} → a ≡ false → b ≡ false → (a || b) ≡ false
+or-false-intro p q = rw (p, q)
+
+pub or-false-left : (a b : Bool) → (a || b) ≡ false → a ≡ false
+or-false-left true b e = e
+or-false-left false b e = refl
+
+pub or-false-right : (a b : Bool) → (a || b) ≡ false → b ≡ false
+or-false-right true b e = absurd (true≢false e)
+or-false-right false b e = e
+
+-- a holds where b or c does
+pub or-ext : (a b c : Bool) → (a ≡ true → (b ≡ true) ⊎ (c ≡ true)) → (b ≡ true → a ≡ true) → (c ≡ true → a ≡ true) → a ≡ (b || c)
+or-ext a true c f g h = g refl
+or-ext a false true f g h = h refl
+or-ext a false false f g h = false-of-not a (λ e. ⊎-elim false≢true false≢true (f e))
+
+-- a holds where b does and at the place i: how a test on places goes on by one place
+pub or-place : (a b : Bool) (i j : ℕ) → (a ≡ true → (j ≡ i → ⊥) → b ≡ true) → (b ≡ true → a ≡ true) → (j ≡ i → a ≡ true) → a ≡ (b || eqb j i)
+or-place a b i j f g h =
+    or-ext a b (eqb j i) (λ e. by-test (eqb j i) inr (λ q. inl (f e (eqb-false j i q)))) g (λ e. h (eqb-true j i e))
+
+-- ---- `cond`
+
+pub cond-true {ℓ} : {A : Type ℓ} {b : Bool} (x y : A) → b ≡ true → cond b x y ≡ x
+cond-true x y e = rw e
+
+pub cond-false {ℓ} : {A : Type ℓ} {b : Bool} (x y : A) → b ≡ false → cond b x y ≡ y
+cond-false x y e = rw e
+
+pub cond-same {ℓ} : {A : Type ℓ} (b : Bool) (x : A) → cond b x x ≡ x
+cond-same true x = refl
+cond-same false x = refl
+
+-- a function of a choice is the choice of its values
+pub ap-cond {ℓ κ} : {A : Type ℓ} {B : Type κ} (f : A → B) (b : Bool) (x y : A) → f (cond b x y) ≡ cond b (f x) (f y)
+ap-cond f true x y = refl
+ap-cond f false x y = refl

@@ -1,0 +1,6 @@
+-- The laws of `raster`, by subject.
+pub mod Area
+pub mod BorderExamples
+pub mod BorderMap
+pub mod Place
+pub mod Scatter

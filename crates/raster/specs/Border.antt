@@ -1,0 +1,55 @@
+-- Document 01, "Mean along a line": where the sample at a place of a line comes from. A place is an integer, and the
+-- line's own places are 0 to n − 1.
+use Prim.Native.Nat.{ℕ, _*_, _-_, _%_, _≤_, _<_, min}
+use mathlib.Core.Bool.{cond}
+use mathlib.Core.Path.{_≡_}
+use lib.Dec.{eqb, ltb}
+use lib.IntN.{ℤ, pos, negsuc}
+use Rattle.raster.specs.declared.border.LineBorderMode.{LineBorderMode}
+use Rattle.raster.specs.declared.border.LineBorderMode.the-variants.{Replicate, Reflect, Constant}
+use Rattle.raster.specs.declared.border.BorderSample.{BorderSample}
+use Rattle.raster.specs.declared.border.BorderSample.the-variants.{Inside, Outside}
+
+-- p mod m, which lies in 0..m−1 for a negative p too (`negsuc k` is −(k + 1))
+abbrev pub modℤ : ℤ → ℕ → ℕ
+modℤ (pos k) m = k % m
+modℤ (negsuc k) m = m - 1 - k % m
+
+-- Replicate takes the nearer end
+abbrev pub nearer : ℕ → ℤ → ℕ
+nearer n (pos k) = min k (n - 1)
+nearer n (negsuc k) = 0
+
+-- Reflect takes p mod (2n − 2), folded, and 0 for n = 1
+abbrev pub folded : ℕ → ℕ → ℕ
+folded n r = cond (ltb r n) r (2 * n - 2 - r)
+
+abbrev pub reflected : ℕ → ℤ → ℕ
+reflected n p = cond (eqb n 1) 0 (folded n (modℤ p (2 * n - 2)))
+
+-- Constant its value
+abbrev pub constant : ℕ → ℕ → ℤ → BorderSample
+constant v n (pos k) = cond (ltb k n) (Inside k) (Outside v)
+constant v n (negsuc k) = Outside v
+
+unfoldable pub borderMap : LineBorderMode → ℕ → ℤ → BorderSample
+borderMap Replicate n p = Inside (nearer n p)
+borderMap Reflect n p = Inside (reflected n p)
+borderMap (Constant v) n p = constant v n p
+
+-- a constant border's value, and 0 for the others
+abbrev pub borderValue : LineBorderMode → ℕ
+borderValue Replicate = 0
+borderValue Reflect = 0
+borderValue (Constant v) = v
+
+-- a place of a line of n, or a byte
+abbrev pub Within : ℕ → BorderSample → Type 0
+Within n (Inside i) = i < n
+Within n (Outside v) = v ≤ 255
+
+-- What the laws of lines ask of a border map m, whatever the border: its samples come from the line or are bytes, and each
+-- place of the line is its own source.
+pub record Lawful (n : ℕ) (m : ℤ → BorderSample) : Type 0 where
+  pub range : (p : ℤ) → Within n (m p)
+  pub inside : (k : ℕ) → k < n → m (pos k) ≡ Inside k

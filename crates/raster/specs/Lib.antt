@@ -1,0 +1,4 @@
+-- What the contracts of `raster` cite.
+pub mod Border
+pub mod Direction
+pub mod Lines

@@ -1,0 +1,77 @@
+// The four directions of a line, and the one nearest to an angle.
+ghost use mathlib.Core.Path.{_≡_};
+ghost use Rattle.raster.specs.Direction.{stepOf, directionIndex, halfTurn, nearest, fromAngle};
+
+pub enum RasterDirection4 {
+    Horizontal,
+    DownRight,
+    Vertical,
+    DownLeft,
+}
+
+// Columns and rows from one place of a line to the next.
+pub struct RasterStep {
+    pub dx: i64,
+    pub dy: i64,
+}
+
+// The angle in degrees, taken modulo a half turn.
+fn half_turn(theta_radians: f64) -> f64
+    ensures { λ r. ⌜ r ≡ halfTurn «theta_radians» ⌝ }
+{
+    let rest = theta_radians * 57.29577951308232 % 180.0;
+    if rest < 0.0 {
+        return rest + 180.0;
+    }
+    rest
+}
+
+// The direction nearest to v eighths of a turn. A v that is no number passes no test.
+fn nearest_direction(v: f64) -> RasterDirection4
+    ensures { λ r. ⌜ r ≡ nearest v ⌝ }
+{
+    if v < 0.5 {
+        return RasterDirection4::Horizontal;
+    }
+    if v < 1.5 {
+        return RasterDirection4::DownRight;
+    }
+    if v < 2.5 {
+        return RasterDirection4::Vertical;
+    }
+    if v < 3.5 {
+        return RasterDirection4::DownLeft;
+    }
+    RasterDirection4::Horizontal
+}
+
+impl RasterDirection4 {
+    pub fn step(self) -> RasterStep
+        ensures { λ r. ⌜ r ≡ stepOf self ⌝ }
+    {
+        match self {
+            RasterDirection4::Horizontal => RasterStep { dx: 1, dy: 0 },
+            RasterDirection4::DownRight => RasterStep { dx: 1, dy: 1 },
+            RasterDirection4::Vertical => RasterStep { dx: 0, dy: 1 },
+            RasterDirection4::DownLeft => RasterStep { dx: -1, dy: 1 },
+        }
+    }
+
+    // The direction's number in a record.
+    pub fn index(self) -> u8
+        ensures { λ r. ⌜ r ≡ directionIndex self ⌝ }
+    {
+        match self {
+            RasterDirection4::Horizontal => 0,
+            RasterDirection4::DownRight => 1,
+            RasterDirection4::Vertical => 2,
+            RasterDirection4::DownLeft => 3,
+        }
+    }
+
+    pub fn from_angle(theta_radians: f64) -> Self
+        ensures { λ r. ⌜ r ≡ fromAngle «theta_radians» ⌝ }
+    {
+        nearest_direction(half_turn(theta_radians) / 45.0)
+    }
+}

@@ -1,0 +1,75 @@
+-- Laws of the answers: when fields are checked, a record is read, and a slice is written.
+use mathlib.Core.Path.{_≡_, sym, ap, _∙_}
+use mathlib.Core.Bool.{true, false}
+use mathlib.Core.List.{List, _++_}
+use Prim.Native.Nat.{ℕ}
+use native.Mathlib.Nat.{le-of-eq}
+use borrow.Author.Tests.{ne-eqb}
+use lib.ListN.{length, drop}
+use lib.Seq.{sets, sets-eq, drop-length}
+use lib.Ieee.Scale.{finite}
+use Rattle.numbers.proofs.Test.{false-not-true, false-of-not}
+use Rattle.record.specs.Bytes.{bytesOf}
+use Rattle.record.specs.Fields.{decoded, encoded, legal}
+use Rattle.record.specs.Record.{recordOf, fieldsOf, checked, recordFields, readRecord, toWrite, Wrote}
+use Rattle.record.specs.declared.fields.Fields.{Fields}
+use Rattle.record.specs.declared.FieldsAnswer.the-variants.{Legal, Broken}
+use Rattle.record.specs.declared.Record.{Record}
+use Rattle.record.specs.declared.ReadAnswer.the-variants as answer
+use Rattle.record.proofs.Legal.{sound}
+use Rattle.record.proofs.Doubles.{not-finite-bits}
+
+-- ---- checked fields
+
+pub checked-legal : (f : Fields) → legal f ≡ true → checked f ≡ Legal f
+checked-legal f h = rw h
+
+pub checked-broken : (f : Fields) → legal f ≡ false → checked f ≡ Broken
+checked-broken f h = rw h
+
+module _ (r : Record) (q : ℕ) where
+  pub angle-broken : finite (r .angle) ≡ false → legal (fieldsOf r q) ≡ false
+  unfolding fieldsOf
+  angle-broken h = false-of-not (legal (fieldsOf r q)) (λ e. false-not-true (not-finite-bits (r .angle) h) (sound (fieldsOf r q) e .angle))
+
+  pub estimate-broken : finite (r .estimate) ≡ false → legal (fieldsOf r q) ≡ false
+  unfolding fieldsOf
+  estimate-broken h = false-of-not (legal (fieldsOf r q)) (λ e. false-not-true (not-finite-bits (r .estimate) h) (sound (fieldsOf r q) e .estimate))
+
+-- ---- reading
+
+module _ (xs : List ℕ) where
+  pub read-legal : length xs ≡ 32 → legal (decoded xs) ≡ true → readRecord xs ≡ answer.Record (recordOf (decoded xs))
+  unfolding readRecord
+  read-legal l h = rw (l, h)
+
+  pub read-broken : length xs ≡ 32 → legal (decoded xs) ≡ false → readRecord xs ≡ answer.Refused 13
+  unfolding readRecord
+  read-broken l h = rw (l, h)
+
+  pub read-short : (length xs ≡ 32 → ⊥) → readRecord xs ≡ answer.Refused 13
+  unfolding readRecord
+  read-short n = rw (ne-eqb (length xs) 32 n)
+
+-- ---- writing
+
+-- 32 bytes, stored from place 0 on, are the whole slice
+pub stored-whole : (f : Fields) (old : List ℕ) → length old ≡ 32 → sets old 0 (encoded f) ≡ encoded f
+unfolding encoded bytesOf
+stored-whole f old l =
+    sets-eq (encoded f) old 0 (le-of-eq (sym l))
+    ∙ ap (λ (k : ℕ). encoded f ++ drop k old) (sym l)
+    ∙ ap (λ (ys : List ℕ). encoded f ++ ys) (drop-length old)
+
+module _ (r : Record) (old new : List ℕ) where
+  pub wrote-legal : (f : Fields) → length old ≡ 32 → recordFields r ≡ Legal f → new ≡ encoded f → Wrote r old new 0
+  unfolding toWrite
+  wrote-legal f l e h = record { answers = rw (l, e); bytes = rw (l, e) h }
+
+  pub wrote-broken : length old ≡ 32 → recordFields r ≡ Broken → new ≡ old → Wrote r old new 13
+  unfolding toWrite
+  wrote-broken l e h = record { answers = rw (l, e); bytes = rw (l, e) h }
+
+  pub wrote-short : (length old ≡ 32 → ⊥) → new ≡ old → Wrote r old new 13
+  unfolding toWrite
+  wrote-short n h = record { answers = rw (ne-eqb (length old) 32 n); bytes = rw (ne-eqb (length old) 32 n) h }

@@ -1,0 +1,8 @@
+-- Laws of `record`.
+pub mod LittleEndian
+pub mod Doubles
+pub mod Legal
+pub mod Answer
+pub mod Coding
+pub mod RoundTrip
+pub mod Examples

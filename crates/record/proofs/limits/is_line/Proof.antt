@@ -1,0 +1,21 @@
+-- `record::limits::is_line` meets its contract.
+use borrow.Author.Needs.{needs}
+use Rattle.record.specs.Fields.{lineLegal}
+use Rattle.record.proofs.limits.is_line.Statement.{statement}
+use Rattle.record.proofs.limits.is_line.Tie as tie
+
+is-border-requires : tie.Need-is-border-requires
+is-border-requires c κs = search needs
+
+is-finite-bits-requires : tie.Need-is-finite-bits-requires
+is-finite-bits-requires c κs = search needs
+
+is-estimate-requires : tie.Need-is-estimate-requires
+is-estimate-requires c κs = search needs
+
+returns : tie.Need-returns
+unfolding lineLegal
+returns c = cc
+
+pub is-line-spec : {M : Type 1} → statement M
+is-line-spec = tie.close (tie.spec is-border-requires is-finite-bits-requires is-estimate-requires returns)

@@ -1,0 +1,4 @@
+-- What the contracts of `record` cite.
+pub mod Bytes
+pub mod Fields
+pub mod Record

@@ -1,0 +1,142 @@
+-- Document 01, "The 32-byte record": what a record's fields stand for, what reading and writing answer, and which records are jobs.
+use mathlib.Core.Path.{_≡_}
+use mathlib.Core.Bool.{Bool, _&&_, cond}
+use mathlib.Core.List.{List}
+use Prim.Native.Nat.{ℕ}
+use lib.Dec.{eqb}
+use lib.ListN.{length}
+use lib.Ieee.{Float, binary64, ofBits, toBits}
+use lib.Ieee.Scale.{finite}
+use Rattle.floats.specs.Factor.{quantized, factorOf}
+use Rattle.floats.specs.declared.Quantized.{Quantized}
+use Rattle.floats.specs.declared.Quantized.the-variants.{Q16, Refused}
+use Rattle.raster.specs.Direction.{directionIndex}
+use Rattle.raster.specs.Border.{borderValue}
+use Rattle.raster.specs.declared.direction.RasterDirection4.{RasterDirection4}
+use Rattle.raster.specs.declared.direction.RasterDirection4.the-variants.{Horizontal, DownRight, Vertical, DownLeft}
+use Rattle.raster.specs.declared.border.LineBorderMode.{LineBorderMode}
+use Rattle.raster.specs.declared.border.LineBorderMode.the-variants.{Replicate, Reflect, Constant}
+use Rattle.record.specs.Fields.{decoded, encoded, legal}
+use Rattle.record.specs.declared.fields.Fields.{Fields}
+use Rattle.record.specs.declared.FieldsAnswer.{FieldsAnswer}
+use Rattle.record.specs.declared.FieldsAnswer.the-variants.{Legal, Broken}
+use Rattle.record.specs.declared.RecordFilter.{RecordFilter}
+use Rattle.record.specs.declared.RecordFilter.the-variants.{Restoration, Unsharp, Binomial}
+use Rattle.record.specs.declared.Record.{Record}
+use Rattle.record.specs.declared.ReadAnswer.{ReadAnswer}
+use Rattle.record.specs.declared.ReadAnswer.the-variants as answer
+
+-- ---- from fields to a record
+
+-- 0 to 3 in the order Horizontal, DownRight, Vertical, DownLeft
+abbrev pub directionFrom : ℕ → RasterDirection4
+directionFrom d = cond (eqb d 0) Horizontal (cond (eqb d 1) DownRight (cond (eqb d 2) Vertical DownLeft))
+
+-- 0 Replicate, 1 Reflect, 2 Constant
+abbrev pub borderFrom : ℕ → ℕ → LineBorderMode
+borderFrom border value = cond (eqb border 0) Replicate (cond (eqb border 1) Reflect (Constant value))
+
+-- 1 restoration, 2 line unsharp, 3 binomial; the factor is q / 65,536
+unfoldable pub filterFrom : ℕ → ℕ → RecordFilter
+filterFrom filter q = cond (eqb filter 1) (Restoration (factorOf q)) (cond (eqb filter 2) (Unsharp (factorOf q)) Binomial)
+
+-- angle and estimate as double bits
+unfoldable pub recordOf : Fields → Record
+unfolding filterFrom
+recordOf f = record {
+  width = f .width;
+  height = f .height;
+  direction = directionFrom (f .direction);
+  border = borderFrom (f .border) (f .value);
+  filter = filterFrom (f .filter) (f .q);
+  «blur_length» = f .«blur_length»;
+  iterations = f .iterations;
+  angle = ofBits binary64 (f .angle);
+  estimate = ofBits binary64 (f .estimate);
+}
+
+-- ---- from a record to fields
+
+-- 0 Replicate, 1 Reflect, 2 Constant
+abbrev pub borderCode : LineBorderMode → ℕ
+borderCode Replicate = 0
+borderCode Reflect = 1
+borderCode (Constant v) = 2
+
+-- 1 restoration, 2 line unsharp, 3 binomial
+abbrev pub filterCode : RecordFilter → ℕ
+filterCode (Restoration x) = 1
+filterCode (Unsharp x) = 2
+filterCode Binomial = 3
+
+-- a finite factor of the bits of q / 65,536
+unfoldable pub isFactor : ℕ → Float → Bool
+isFactor q x = finite x && eqb (toBits binary64 (factorOf q)) (toBits binary64 x)
+
+-- the q of a factor that is exactly q / 65,536
+abbrev pub exactQ : Quantized → Float → Quantized
+exactQ (Q16 q) x = cond (isFactor q x) (Q16 q) Refused
+exactQ Refused x = Refused
+
+-- a relaxation lies in 0..1, a gain in 0..8; the binomial has q 0
+unfoldable pub filterQ : RecordFilter → Quantized
+filterQ (Restoration x) = exactQ (quantized 1 x) x
+filterQ (Unsharp x) = exactQ (quantized 8 x) x
+filterQ Binomial = Q16 0
+
+-- the fields as numbers, with the filter's q; angle and estimate as double bits
+unfoldable pub fieldsOf : Record → ℕ → Fields
+fieldsOf r q = record {
+  width = r .width;
+  height = r .height;
+  direction = directionIndex (r .direction);
+  border = borderCode (r .border);
+  value = borderValue (r .border);
+  filter = filterCode (r .filter);
+  «blur_length» = r .«blur_length»;
+  iterations = r .iterations;
+  q = q;
+  angle = toBits binary64 (r .angle);
+  estimate = toBits binary64 (r .estimate);
+}
+
+-- fields that break no limit
+abbrev pub checked : Fields → FieldsAnswer
+checked f = cond (legal f) (Legal f) Broken
+
+-- a record whose factor is no q / 65,536 breaks its layout too
+abbrev pub withQ : Record → Quantized → FieldsAnswer
+withQ r (Q16 q) = checked (fieldsOf r q)
+withQ r Refused = Broken
+
+-- a record's fields, or that they break its layout
+unfoldable pub recordFields : Record → FieldsAnswer
+unfolding filterQ fieldsOf
+recordFields r = withQ r (filterQ (r .filter))
+
+-- ---- reading and writing: 13 for a record that breaks its layout and for a slice that is not 32 bytes long
+
+unfoldable pub readRecord : List ℕ → ReadAnswer
+readRecord xs = cond (eqb (length xs) 32 && legal (decoded xs)) (answer.Record (recordOf (decoded xs))) (answer.Refused 13)
+
+-- what there is to write into the slice
+unfoldable pub toWrite : Record → List ℕ → FieldsAnswer
+toWrite r old = cond (eqb (length old) 32) (recordFields r) Broken
+
+abbrev pub writeNumber : FieldsAnswer → ℕ
+writeNumber (Legal f) = 0
+writeNumber Broken = 13
+
+abbrev pub writeBytes : FieldsAnswer → List ℕ → List ℕ
+writeBytes (Legal f) old = encoded f
+writeBytes Broken old = old
+
+-- the whole slice is the record's bytes, or a refusal leaves it as it was
+pub record Wrote (r : Record) (old new : List ℕ) (number : ℕ) : Type 0 where
+  pub answers : number ≡ writeNumber (toWrite r old)
+  pub bytes : new ≡ writeBytes (toWrite r old) old
+
+-- ---- a job has direction 0, estimate 0
+
+unfoldable pub isJob : Record → Bool
+isJob r = eqb (directionIndex (r .direction)) 0 && eqb (toBits binary64 (r .estimate)) 0

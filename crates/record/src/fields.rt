@@ -1,0 +1,83 @@
+// The fields of a record as numbers, in the order of its bytes.
+use crate::bytes::number_at;
+use crate::bytes::put_number;
+ghost use mathlib.Core.Path.{_≡_};
+ghost use lib.ListN.{length};
+ghost use lib.Seq.{sets};
+ghost use Rattle.record.specs.Fields.{decoded, headBytes, countBytes, doubleBytes, encoded};
+
+pub(crate) struct Fields {
+    pub(crate) width: u16,
+    pub(crate) height: u16,
+    pub(crate) direction: u8,
+    pub(crate) border: u8,
+    pub(crate) value: u8,
+    pub(crate) filter: u8,
+    pub(crate) blur_length: u16,
+    pub(crate) iterations: u16,
+    pub(crate) q: u32,
+    pub(crate) angle: u64,
+    pub(crate) estimate: u64,
+}
+
+// The fields in 32 bytes.
+pub(crate) fn fields_in(bytes: &[u8]) -> Fields
+    requires { ⌜ length (now bytes) ≡ 32 ⌝ }
+    ensures { λ r. ⌜ r ≡ decoded (now (bytes .entry)) ⌝ }
+{
+    Fields {
+        width: number_at(bytes, 0, 2) as u16,
+        height: number_at(bytes, 2, 2) as u16,
+        direction: bytes[4],
+        border: bytes[5],
+        value: bytes[6],
+        filter: bytes[7],
+        blur_length: number_at(bytes, 8, 2) as u16,
+        iterations: number_at(bytes, 10, 2) as u16,
+        q: number_at(bytes, 12, 4) as u32,
+        angle: number_at(bytes, 16, 8),
+        estimate: number_at(bytes, 24, 8),
+    }
+}
+
+// Width, height and the four single bytes.
+fn put_head(fields: Fields, bytes: &mut [u8])
+    requires { ⌜ length (now bytes) ≡ 32 ⌝ }
+    ensures { λ _. ⌜ now (bytes .exit) ≡ sets (now (bytes .entry)) 0 (headBytes fields) ⌝ }
+{
+    put_number(bytes, 0, 2, fields.width as u64);
+    put_number(bytes, 2, 2, fields.height as u64);
+    bytes[4] = fields.direction;
+    bytes[5] = fields.border;
+    bytes[6] = fields.value;
+    bytes[7] = fields.filter;
+}
+
+// Blur length, iterations and q.
+fn put_counts(fields: Fields, bytes: &mut [u8])
+    requires { ⌜ length (now bytes) ≡ 32 ⌝ }
+    ensures { λ _. ⌜ now (bytes .exit) ≡ sets (now (bytes .entry)) 8 (countBytes fields) ⌝ }
+{
+    put_number(bytes, 8, 2, fields.blur_length as u64);
+    put_number(bytes, 10, 2, fields.iterations as u64);
+    put_number(bytes, 12, 4, fields.q as u64);
+}
+
+// Angle and estimate.
+fn put_doubles(fields: Fields, bytes: &mut [u8])
+    requires { ⌜ length (now bytes) ≡ 32 ⌝ }
+    ensures { λ _. ⌜ now (bytes .exit) ≡ sets (now (bytes .entry)) 16 (doubleBytes fields) ⌝ }
+{
+    put_number(bytes, 16, 8, fields.angle);
+    put_number(bytes, 24, 8, fields.estimate);
+}
+
+// Each field where it belongs.
+pub(crate) fn put_fields(fields: Fields, bytes: &mut [u8])
+    requires { ⌜ length (now bytes) ≡ 32 ⌝ }
+    ensures { λ _. ⌜ now (bytes .exit) ≡ encoded fields ⌝ }
+{
+    put_head(fields, bytes);
+    put_counts(fields, bytes);
+    put_doubles(fields, bytes);
+}

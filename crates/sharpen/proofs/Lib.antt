@@ -1,0 +1,6 @@
+-- The laws of `sharpen`.
+pub mod Binomial
+pub mod Places
+pub mod Rows
+pub mod Call
+pub mod Examples

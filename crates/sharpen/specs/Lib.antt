@@ -1,0 +1,4 @@
+-- What the contracts of `sharpen` cite.
+pub mod Binomial
+pub mod Passes
+pub mod Call

@@ -1,0 +1,92 @@
+/* The smear stage: measuring a line smear in a grey picture and taking it out.
+ *
+ * A picture is a slice of bytes, `src` and `src_len`, with its width, height and stride: pixel (c, r) is byte r * stride + c.
+ * A function returns 0, or the number of the refusal, in which case it has changed nothing. What is passed to one call does not overlap.
+ * Directions: 0 Horizontal, 1 DownRight, 2 Vertical, 3 DownLeft.
+ */
+#ifndef SMEAR_H
+#define SMEAR_H
+
+#include <stddef.h>
+#include <stdint.h>
+
+#ifdef __cplusplus
+extern "C" {
+#endif
+
+/* The raster direction nearest to an angle in radians. An angle that is no number is Horizontal. */
+uint8_t smear_direction_from_angle(double angle);
+
+/* The direction of the line smear in a picture, from its Sobel gradients gx and gy: *direction, with the sums *a of gx * gx, *c of
+ * gx * gy and *e of gy * gy over the interior pixels. Refusals 1 to 4. */
+uint8_t smear_estimate_line_direction(const uint8_t *src, size_t src_len, size_t width, size_t height, size_t stride,
+                                      uint8_t *direction, int64_t *a, int64_t *c, int64_t *e);
+
+/* A swing of the picture: how wide it is, in pixels, and by how much it changes. */
+typedef struct {
+    double width;
+    int32_t swing;
+} smear_swing;
+
+/* The length of the line smear along the raster direction nearest to `angle`: *length, or 0.0 where there is nothing to tell it by. There
+ * must be `minimum_transitions` swings of at least `minimum_amplitude`; usual are 8 and 24, and a 0 or a side below 3 gives 0.0. `swings`
+ * has at least width * height elements; what it holds afterwards is free. Refusals: 1 to 4, and 10 of too few swings. */
+uint8_t smear_estimate_line_length(const uint8_t *src, size_t src_len, size_t width, size_t height, size_t stride, double angle,
+                                   size_t minimum_transitions, uint8_t minimum_amplitude,
+                                   smear_swing *swings, size_t swings_len, double *length);
+
+/* The binomial unsharp of `src`, into `dst`. `scratch` has at least width * height elements; what it holds afterwards is free.
+ * Refusals: 1 to 4 of the source, 5 of the destination's layout, 6 of two sizes that differ, 10 of a short scratch. */
+uint8_t smear_fixed_binomial_unsharp(
+    const uint8_t *src, size_t src_len, size_t width, size_t height, size_t stride,
+    uint8_t *dst, size_t dst_len, size_t dst_width, size_t dst_height, size_t dst_stride,
+    uint16_t *scratch, size_t scratch_len);
+
+/* Restoration of `src` along the direction nearest to `angle`, cut to 0..255, into `dst`. `blur_length` is odd, from 3 to
+ * 2 * max(width, height) + 1; `iterations` 1 to 22; `relaxation` 0 to 1. `border` is what stands beyond a line's ends: 0 their
+ * nearer pixel, 1 the line reflected, any other `border_value`. `scratch` has at least 3 * width * height elements; what it holds
+ * afterwards is free. *direction is the direction taken.
+ * Refusals: 1 to 4 of the source, 5 of the destination's layout, 6 of two sizes that differ, 7 of the length and the angle,
+ * 8 and 9 of the iterations and the relaxation, 10 of a short scratch. */
+uint8_t smear_van_cittert_line(
+    const uint8_t *src, size_t src_len, size_t width, size_t height, size_t stride,
+    uint8_t *dst, size_t dst_len, size_t dst_width, size_t dst_height, size_t dst_stride,
+    double angle, size_t blur_length, size_t iterations, double relaxation, uint8_t border, uint8_t border_value,
+    int32_t *scratch, size_t scratch_len, uint8_t *direction);
+
+/* The same, with the last estimate uncut in the first width * height elements of `dst`, row by row.
+ * Refusals: those of the source and the settings; 10 also of a `dst` that is shorter. */
+uint8_t smear_van_cittert_estimate(
+    const uint8_t *src, size_t src_len, size_t width, size_t height, size_t stride,
+    int32_t *dst, size_t dst_len,
+    double angle, size_t blur_length, size_t iterations, double relaxation, uint8_t border, uint8_t border_value,
+    int32_t *scratch, size_t scratch_len, uint8_t *direction);
+
+/* The line unsharp of `src`: one step of the restoration with `gain`, 0 to 8, in place of the relaxation.
+ * Refusals: those of the restoration. */
+uint8_t smear_directional_unsharp_line(
+    const uint8_t *src, size_t src_len, size_t width, size_t height, size_t stride,
+    uint8_t *dst, size_t dst_len, size_t dst_width, size_t dst_height, size_t dst_stride,
+    double angle, size_t blur_length, double gain, uint8_t border, uint8_t border_value,
+    int32_t *scratch, size_t scratch_len, uint8_t *direction);
+
+/* The whole job: the direction from the picture, the length along it, raised to an odd blur length, and restoration of `src` by them, cut
+ * to 0..255, into `dst`. Thresholds as for the length, the other settings as for the restoration. `scratch` has at least
+ * 3 * width * height elements and `swings` width * height; what they hold afterwards is free. *direction, *blur_length and *estimate are
+ * what was measured.
+ * Refusals: 1 to 4 of the source, 5 of the destination's layout, 6 of two sizes that differ, 8 and 9 of the iterations and the
+ * relaxation, 10 of a short scratch or too few swings, 11 of no length, 12 of a blur length above 2 * max(width, height) + 1. 11 and 12
+ * leave anything in `scratch` and `swings`. */
+uint8_t smear_restore(
+    const uint8_t *src, size_t src_len, size_t width, size_t height, size_t stride,
+    uint8_t *dst, size_t dst_len, size_t dst_width, size_t dst_height, size_t dst_stride,
+    size_t minimum_transitions, uint8_t minimum_amplitude,
+    size_t iterations, double relaxation, uint8_t border, uint8_t border_value,
+    int32_t *scratch, size_t scratch_len, smear_swing *swings, size_t swings_len,
+    uint8_t *direction, size_t *blur_length, double *estimate);
+
+#ifdef __cplusplus
+}
+#endif
+
+#endif

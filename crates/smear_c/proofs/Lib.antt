@@ -1,0 +1,3 @@
+-- The laws of `smear_c`, by subject.
+pub mod Outs
+pub mod JobOuts

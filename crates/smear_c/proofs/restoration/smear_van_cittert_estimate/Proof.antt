@@ -1,0 +1,39 @@
+-- `smear_c::restoration::smear_van_cittert_estimate` meets its contract: the call's, at the configuration that the parameters make.
+use borrow.Author.Needs.{needs}
+use Rattle.smear_c.proofs.restoration.smear_van_cittert_estimate.Statement.{statement}
+use Rattle.smear_c.proofs.restoration.smear_van_cittert_estimate.Tie as tie
+
+restoration-config-requires : tie.Need-restoration-config-requires
+restoration-config-requires c κs = search needs
+
+van-cittert-estimate-into-requires : tie.Need-van-cittert-estimate-into-requires
+van-cittert-estimate-into-requires c κs = search needs
+
+answer-c-requires : tie.Need-answer-c-requires
+answer-c-requires c κs = search needs
+
+same-length : tie.Need-same-length
+same-length c = search needs
+
+same-length-2 : tie.Need-same-length-2
+same-length-2 c = search needs
+
+returns : tie.Need-returns
+returns c =
+    let k = c .before .before .before .before in
+    record {
+      answer = k .van-cittert-estimate-into .result;
+      called = rw (k .before .before .before .restoration-config .ensures) at (k .van-cittert-estimate-into .ensures);
+      given = c .answer-c .ensures;
+    }
+
+pub smear-van-cittert-estimate-spec : {M : Type 1} → statement M
+smear-van-cittert-estimate-spec =
+    tie.close
+    (tie.spec
+    restoration-config-requires
+    van-cittert-estimate-into-requires
+    answer-c-requires
+    same-length
+    same-length-2
+    returns)

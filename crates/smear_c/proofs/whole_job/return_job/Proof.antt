@@ -1,0 +1,24 @@
+-- `smear_c::whole_job::return_job` meets its contract: the answer's two cases.
+use borrow.Author.Needs.{needs}
+use Rattle.smear_c.proofs.JobOuts.{given-result, given-refusal}
+use Rattle.smear_c.proofs.whole_job.return_job.Statement.{statement}
+use Rattle.smear_c.proofs.whole_job.return_job.Tie as tie
+
+enum-known-answer : tie.Need-enum-known-answer
+enum-known-answer c = search needs
+
+index-requires : tie.Need-index-requires
+index-requires c κs = search needs
+
+enum-known-answer-2 : tie.Need-enum-known-answer-2
+enum-known-answer-2 c = search needs
+
+returns : tie.Need-returns
+returns c = given-result _ (c .before .before .answer .given .1) (c .index .ensures)
+
+returns-2 : tie.Need-returns-2
+returns-2 c = given-refusal _ (c .before .answer2 .given .1)
+
+pub return-job-spec : {M : Type 1} → statement M
+return-job-spec =
+    tie.close (tie.spec enum-known-answer index-requires enum-known-answer-2 returns returns-2)

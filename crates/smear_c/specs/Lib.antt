@@ -1,0 +1,5 @@
+-- What the contracts of `smear_c` cite.
+pub mod Direction
+pub mod Restoration
+pub mod Length
+pub mod WholeJob

@@ -1,0 +1,58 @@
+// The length of the line smear.
+ghost use mathlib.Core.Path.{_≡_};
+ghost use Rattle.raster.specs.Direction.{fromAngle};
+ghost use Rattle.smear_c.specs.Length.{lengthResult, lengthOut, LengthReturned};
+use blur::length::LengthAnswer;
+use blur::length::LineLength;
+use blur::length::estimate_at;
+use blur::swings::Swing;
+
+// An answer as C has it: the result, and the length, 0.0 for Nothing.
+fn return_length(answer: LengthAnswer, length: &mut f64) -> u8
+    ensures { λ r. ⌜ (r ≡ lengthResult answer) × (now (length .exit) ≡ lengthOut answer (now (length .entry))) ⌝ }
+{
+    match answer {
+        LengthAnswer::Length(measured) => {
+            match measured {
+                LineLength::Found(pixels) => {
+                    *length = pixels;
+                }
+                LineLength::Nothing => {
+                    *length = 0.0;
+                }
+            }
+            0
+        }
+        LengthAnswer::Refused(number) => number,
+    }
+}
+
+#[no_mangle]
+pub extern "C" fn smear_estimate_line_length(
+    src: &[u8],
+    width: usize,
+    height: usize,
+    stride: usize,
+    angle: f64,
+    minimum_transitions: usize,
+    minimum_amplitude: u8,
+    swings: &mut [Swing],
+    length: &mut f64,
+) -> u8
+    ensures { λ r. ⌜ LengthReturned (now (src .entry)) width height stride (fromAngle angle) «minimum_transitions» «minimum_amplitude»
+        (now (swings .entry)) (now (swings .exit)) (now (length .entry)) (now (length .exit)) r ⌝ }
+{
+    return_length(
+        estimate_at(
+            src,
+            width,
+            height,
+            stride,
+            angle,
+            minimum_transitions,
+            minimum_amplitude,
+            swings,
+        ),
+        length,
+    )
+}

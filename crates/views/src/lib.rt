@@ -1,0 +1,183 @@
+// Each call of the stage over views, for callers who hold pictures as views. A call's contract is the core's own, at the views' fields.
+ghost use mathlib.Core.Path.{_≡_};
+ghost use Rattle.blur.specs.Length.{Estimated as Measured, defaults};
+ghost use Rattle.blur.specs.Tensor.{directionAnswer};
+ghost use Rattle.deblur.specs.Calls.{Filtered, Estimated};
+ghost use Rattle.deblur.specs.Settings.{restorationOf, unsharpOf};
+ghost use Rattle.job.specs.Job.{Restored};
+ghost use Rattle.raster.specs.Direction.{fromAngle};
+ghost use Rattle.sharpen.specs.Call.{Sharpened};
+use blur::length::LengthAnswer;
+use blur::length::LineLengthConfig;
+use blur::swings::Swing;
+use blur::tensor::DirectionAnswer;
+use deblur::DirectionalUnsharpConfig;
+use deblur::RestorationAnswer;
+use deblur::VanCittertConfig;
+use image::Gray8View;
+use image::Gray8ViewMut;
+use job::JobAnswer;
+use job::JobConfig;
+use sharpen::SharpenAnswer;
+
+pub fn estimate_line_direction<'a>(src: Gray8View<'a>) -> DirectionAnswer
+    ensures { λ r. ⌜ r ≡ directionAnswer (now (src .entry .«data»)) (src .entry .width) (src .entry .height) (src .entry .stride) ⌝ }
+{
+    blur::tensor::estimate_line_direction(src.data, src.width, src.height, src.stride)
+}
+
+pub fn estimate_line_length_with<'a>(
+    src: Gray8View<'a>,
+    theta_radians: f64,
+    config: LineLengthConfig,
+    swings: &mut [Swing],
+) -> LengthAnswer
+    ensures { λ r. ⌜ Measured (now (src .entry .«data»)) (src .entry .width) (src .entry .height) (src .entry .stride)
+        (fromAngle «theta_radians») (config .«minimum_transitions») (config .«minimum_amplitude»)
+        (now (swings .entry)) (now (swings .exit)) r ⌝ }
+{
+    blur::length::estimate_line_length_with(
+        src.data,
+        src.width,
+        src.height,
+        src.stride,
+        theta_radians,
+        config,
+        swings,
+    )
+}
+
+pub fn estimate_line_length<'a>(
+    src: Gray8View<'a>,
+    theta_radians: f64,
+    swings: &mut [Swing],
+) -> LengthAnswer
+    ensures { λ r. ⌜ Measured (now (src .entry .«data»)) (src .entry .width) (src .entry .height) (src .entry .stride)
+        (fromAngle «theta_radians») (defaults .«minimum_transitions») (defaults .«minimum_amplitude»)
+        (now (swings .entry)) (now (swings .exit)) r ⌝ }
+{
+    blur::length::estimate_line_length(
+        src.data,
+        src.width,
+        src.height,
+        src.stride,
+        theta_radians,
+        swings,
+    )
+}
+
+pub fn van_cittert_line_into<'a, 'b>(
+    src: Gray8View<'a>,
+    dst: Gray8ViewMut<'b>,
+    config: VanCittertConfig,
+    scratch: &mut [i32],
+) -> RestorationAnswer
+    ensures { λ r. ⌜ Filtered (now (src .entry .«data»)) (src .entry .width) (src .entry .height) (src .entry .stride)
+        (now (dst .entry .«data»)) (now (dst .exit .0)) (dst .entry .width) (dst .entry .height) (dst .entry .stride)
+        (restorationOf config) (now (scratch .entry)) (now (scratch .exit)) r ⌝ }
+{
+    deblur::van_cittert_line_into(
+        src.data,
+        src.width,
+        src.height,
+        src.stride,
+        &mut *dst.data,
+        dst.width,
+        dst.height,
+        dst.stride,
+        config,
+        scratch,
+    )
+}
+
+pub fn van_cittert_estimate_into<'a>(
+    src: Gray8View<'a>,
+    dst: &mut [i32],
+    config: VanCittertConfig,
+    scratch: &mut [i32],
+) -> RestorationAnswer
+    ensures { λ r. ⌜ Estimated (now (src .entry .«data»)) (src .entry .width) (src .entry .height) (src .entry .stride)
+        (now (dst .entry)) (now (dst .exit)) (restorationOf config) (now (scratch .entry)) (now (scratch .exit)) r ⌝ }
+{
+    deblur::van_cittert_estimate_into(
+        src.data,
+        src.width,
+        src.height,
+        src.stride,
+        dst,
+        config,
+        scratch,
+    )
+}
+
+pub fn directional_unsharp_line_into<'a, 'b>(
+    src: Gray8View<'a>,
+    dst: Gray8ViewMut<'b>,
+    config: DirectionalUnsharpConfig,
+    scratch: &mut [i32],
+) -> RestorationAnswer
+    ensures { λ r. ⌜ Filtered (now (src .entry .«data»)) (src .entry .width) (src .entry .height) (src .entry .stride)
+        (now (dst .entry .«data»)) (now (dst .exit .0)) (dst .entry .width) (dst .entry .height) (dst .entry .stride)
+        (unsharpOf config) (now (scratch .entry)) (now (scratch .exit)) r ⌝ }
+{
+    deblur::directional_unsharp_line_into(
+        src.data,
+        src.width,
+        src.height,
+        src.stride,
+        &mut *dst.data,
+        dst.width,
+        dst.height,
+        dst.stride,
+        config,
+        scratch,
+    )
+}
+
+pub fn fixed_binomial_unsharp_into<'a, 'b>(
+    src: Gray8View<'a>,
+    dst: Gray8ViewMut<'b>,
+    scratch: &mut [u16],
+) -> SharpenAnswer
+    ensures { λ r. ⌜ Sharpened (now (src .entry .«data»)) (src .entry .width) (src .entry .height) (src .entry .stride)
+        (now (dst .entry .«data»)) (dst .entry .width) (dst .entry .height) (dst .entry .stride)
+        (now (scratch .entry)) (now (dst .exit .0)) (now (scratch .exit)) r ⌝ }
+{
+    sharpen::fixed_binomial_unsharp_into(
+        src.data,
+        src.width,
+        src.height,
+        src.stride,
+        &mut *dst.data,
+        dst.width,
+        dst.height,
+        dst.stride,
+        scratch,
+    )
+}
+
+pub fn restore<'a, 'b>(
+    src: Gray8View<'a>,
+    dst: Gray8ViewMut<'b>,
+    config: JobConfig,
+    scratch: &mut [i32],
+    swings: &mut [Swing],
+) -> JobAnswer
+    ensures { λ r. ⌜ Restored (now (src .entry .«data»)) (src .entry .width) (src .entry .height) (src .entry .stride)
+        (now (dst .entry .«data»)) (now (dst .exit .0)) (dst .entry .width) (dst .entry .height) (dst .entry .stride) config
+        (now (scratch .entry)) (now (scratch .exit)) (now (swings .entry)) (now (swings .exit)) r ⌝ }
+{
+    job::restore(
+        src.data,
+        src.width,
+        src.height,
+        src.stride,
+        &mut *dst.data,
+        dst.width,
+        dst.height,
+        dst.stride,
+        config,
+        scratch,
+        swings,
+    )
+}

@@ -1,0 +1,60 @@
+//! One input of one call: it is checked on both sides and, where they differ, made smaller for as long as they still do.
+
+use std::fmt::Debug;
+
+/// What a comparison found.
+pub enum Verdict {
+    Alike,
+    /// Both refuse, or the document's number is given where the Rust has no such refusal.
+    Refused,
+    /// Left out by rule: a tie of direction.
+    LeftOut,
+    Differs(String),
+}
+
+pub trait Case: Clone + Debug {
+    fn check(&self) -> Verdict;
+    /// Inputs that are simpler than this one.
+    fn smaller(&self) -> Vec<Self>;
+}
+
+/// How many inputs of a call both answered alike, were refused as they must be, and were left out.
+pub struct Tally {
+    pub name: &'static str,
+    pub alike: usize,
+    pub refused: usize,
+    pub left_out: usize,
+}
+
+impl Tally {
+    pub fn new(name: &'static str) -> Self {
+        Self { name, alike: 0, refused: 0, left_out: 0 }
+    }
+
+    /// Checks a case; at a difference prints the smallest one found and ends the run.
+    pub fn check<C: Case>(&mut self, case: C) {
+        match case.check() {
+            Verdict::Alike => self.alike += 1,
+            Verdict::Refused => self.refused += 1,
+            Verdict::LeftOut => self.left_out += 1,
+            Verdict::Differs(_) => {
+                let (least, words) = shrink(case);
+                eprintln!("{}: {words}\n{least:#?}", self.name);
+                std::process::exit(1);
+            }
+        }
+    }
+}
+
+/// The smallest case on the way down that still differs, with the words of its difference.
+fn shrink<C: Case>(mut case: C) -> (C, String) {
+    let words = |case: &C| match case.check() {
+        Verdict::Differs(words) => Some(words),
+        _ => None,
+    };
+    while let Some(next) = case.smaller().into_iter().find(|next| words(next).is_some()) {
+        case = next;
+    }
+    let words = words(&case).unwrap_or_default();
+    (case, words)
+}

@@ -1,0 +1,178 @@
+//! The whole job against the Rust's three calls in a row, with document 01's rounding of the length between them.
+
+use crate::angle::number;
+use crate::case::{Case, Tally, Verdict};
+use crate::ffi::{smear_restore, Swing};
+use crate::picture::{size, Picture};
+use crate::random::Random;
+use qr_lab_image::Gray8ViewMut;
+use qr_lab_imgproc::blur::{estimate_line_direction, estimate_line_length_with, LineLengthConfig, RasterDirection4};
+use qr_lab_imgproc::deblur::{van_cittert_line_into, LineBorderMode, VanCittertConfig};
+
+#[derive(Clone, Debug)]
+struct Job {
+    source: Picture,
+    destination: Picture,
+    minimum_transitions: usize,
+    minimum_amplitude: u8,
+    iterations: usize,
+    relaxation: f64,
+    border: u8,
+    border_value: u8,
+    scratch: usize,
+    swings: usize,
+}
+
+/// What a job answers: a refusal, or direction, length and estimate with the destination's bytes.
+type Answer = Result<(u8, usize, f64, Vec<u8>), u8>;
+
+const OLD: i32 = 0x5A5A_5A5A;
+const OLD_SWING: Swing = Swing { width: 1e300, swing: 255 };
+
+/// The smallest odd whole number of at least 3 and at least the estimate.
+fn odd(estimate: f64) -> usize {
+    (estimate.ceil() as usize | 1).max(3)
+}
+
+impl Job {
+    fn theirs(&self) -> Answer {
+        let (s, d) = (&self.source, &self.destination);
+        let pixels = s.width * s.height;
+        match s.refusal() {
+            0 => {}
+            refused => return Err(refused),
+        }
+        if d.refusal() != 0 {
+            return Err(5);
+        }
+        if (s.width, s.height) != (d.width, d.height) {
+            return Err(6);
+        }
+        if self.iterations == 0 || !(0.0..=1.0).contains(&self.relaxation) {
+            return Err(8);
+        }
+        if self.iterations > 22 {
+            return Err(9);
+        }
+        if self.scratch < 3 * pixels || self.swings < pixels {
+            return Err(10);
+        }
+        let direction = estimate_line_direction(s.view()).raster_direction;
+        let theta_radians = match direction {
+            RasterDirection4::Horizontal => 0.0,
+            RasterDirection4::DownRight => 0.75,
+            RasterDirection4::Vertical => 1.5,
+            RasterDirection4::DownLeft => 2.25,
+        };
+        let thresholds = LineLengthConfig { minimum_transitions: self.minimum_transitions, minimum_amplitude: self.minimum_amplitude };
+        let estimate = estimate_line_length_with(s.view(), theta_radians, &thresholds).ok_or(11u8)?;
+        let blur_length = odd(estimate);
+        if blur_length > 2 * s.width.max(s.height) + 1 {
+            return Err(12);
+        }
+        let border = match self.border {
+            0 => LineBorderMode::Replicate,
+            1 => LineBorderMode::Reflect,
+            _ => LineBorderMode::Constant(self.border_value),
+        };
+        let config = VanCittertConfig { theta_radians, blur_length, iterations: self.iterations, relaxation: self.relaxation, border };
+        let mut bytes = d.data.clone();
+        let view = Gray8ViewMut::new(&mut bytes, d.width, d.height, d.stride).expect("an accepted layout");
+        van_cittert_line_into(s.view(), view, &config, &mut Default::default()).expect("an accepted call");
+        Ok((number(direction), blur_length, estimate, bytes))
+    }
+
+    /// Whether the picture's direction is a tie, which the Rust decides by its own rounding.
+    fn is_tie(&self) -> bool {
+        self.source.refusal() == 0 && {
+            let (a, c, e) = crate::direction::sums(&self.source);
+            2 * c.abs() == (a - e).abs() && a != e
+        }
+    }
+}
+
+impl Case for Job {
+    fn check(&self) -> Verdict {
+        if self.is_tie() {
+            return Verdict::LeftOut;
+        }
+        let (s, d) = (&self.source, &self.destination);
+        let mut bytes = d.data.clone();
+        let mut scratch = vec![OLD; self.scratch];
+        let mut swings = vec![OLD_SWING; self.swings];
+        let (mut direction, mut blur_length, mut estimate) = (77, 77, -1.0);
+        let code = unsafe {
+            smear_restore(
+                s.data.as_ptr(), s.data.len(), s.width, s.height, s.stride,
+                bytes.as_mut_ptr(), bytes.len(), d.width, d.height, d.stride,
+                self.minimum_transitions, self.minimum_amplitude, self.iterations, self.relaxation, self.border, self.border_value,
+                scratch.as_mut_ptr(), scratch.len(), swings.as_mut_ptr(), swings.len(),
+                &mut direction, &mut blur_length, &mut estimate,
+            )
+        };
+        match self.theirs() {
+            Err(refused) if code == refused => {
+                let lent = code == 11 || code == 12 || scratch.iter().all(|&v| v == OLD) && swings.iter().all(|&s| s == OLD_SWING);
+                if lent && bytes == d.data && (direction, blur_length, estimate) == (77, 77, -1.0) {
+                    return Verdict::Refused;
+                }
+                Verdict::Differs("a refusal changed something".into())
+            }
+            Ok(theirs) if code == 0 && theirs == (direction, blur_length, estimate, bytes) => Verdict::Alike,
+            theirs => Verdict::Differs(format!("{code}, direction {direction}, length {blur_length}, {estimate:?}; not {theirs:?}")),
+        }
+    }
+
+    fn smaller(&self) -> Vec<Self> {
+        let mut out = Vec::new();
+        for source in self.source.smaller() {
+            let pixels = source.width * source.height;
+            let destination = Picture { data: vec![0; pixels], stride: source.width, ..source };
+            out.push(Self { source, destination, scratch: 3 * pixels, swings: pixels, ..self.clone() });
+        }
+        out
+    }
+}
+
+fn case(random: &mut Random, width: usize, height: usize) -> Job {
+    let pixels = width * height;
+    let mut out = Job {
+        source: Picture::random(random, width, height),
+        destination: Picture::random(random, width, height),
+        minimum_transitions: [1, 1, 1, 2, 3, 8][random.below(6) as usize],
+        minimum_amplitude: [1, 1, 24, 24, 24, 100][random.below(6) as usize],
+        iterations: 1 + random.below(5) as usize,
+        relaxation: [1.0, 1.0, 0.5, 0.1, -0.0, random.unit()][random.below(6) as usize],
+        border: random.below(4) as u8,
+        border_value: random.below(256) as u8,
+        scratch: 3 * pixels + random.below(3) as usize,
+        swings: pixels + random.below(3) as usize,
+    };
+    match random.below(40) {
+        0 => out.source = out.source.damaged(random),
+        1 => out.destination = out.destination.damaged(random),
+        2 => out.destination = Picture::random(random, width + 1, height),
+        3 => out.scratch = 3 * pixels - 1,
+        4 => out.swings = pixels - 1,
+        5 => out.iterations = [0, 22, 23, usize::MAX][random.below(4) as usize],
+        6 => out.relaxation = [f64::NAN, f64::INFINITY, 1.5, -0.5][random.below(4) as usize],
+        7 => out.minimum_transitions = 0,
+        8 => out.minimum_amplitude = 0,
+        _ => {}
+    }
+    out
+}
+
+pub fn compare(random: &mut Random, scale: usize) -> Tally {
+    let mut tally = Tally::new("restore");
+    for _ in 0..40_000 * scale {
+        let (width, height) = size(random);
+        let (width, height) = if random.below(4) == 0 { (width, height) } else { (3 + width, 3 + height) };
+        tally.check(case(random, width, height));
+    }
+    for _ in 0..4 {
+        let large = case(random, 1024, 1024);
+        tally.check(Job { minimum_transitions: 8, minimum_amplitude: 24, iterations: 3, relaxation: 1.0, ..large });
+    }
+    tally
+}

@@ -1,0 +1,296 @@
+//! The line filters: restoration and line unsharp against the Rust, and the estimate call against a plain restatement of the Rust's steps.
+
+use crate::angle::number;
+use crate::case::{Case, Tally, Verdict};
+use crate::ffi::{smear_directional_unsharp_line, smear_van_cittert_estimate, smear_van_cittert_line};
+use crate::picture::{size, Picture};
+use crate::random::Random;
+use qr_lab_image::Gray8ViewMut;
+use qr_lab_imgproc::blur::RasterDirection4;
+use qr_lab_imgproc::deblur::{
+    directional_unsharp_line_into, van_cittert_line_into, DirectionalUnsharpConfig, LineBorderMode, VanCittertConfig,
+};
+
+#[derive(Clone, Copy, Debug, PartialEq)]
+pub enum Call {
+    Restore,
+    Estimate,
+    Unsharp,
+}
+
+#[derive(Clone, Debug)]
+pub struct Filter {
+    call: Call,
+    source: Picture,
+    destination: Picture,
+    /// The estimate call's destination.
+    estimates: usize,
+    angle: f64,
+    length: usize,
+    iterations: usize,
+    factor: f64,
+    border: u8,
+    border_value: u8,
+    scratch: usize,
+}
+
+const OLD: i32 = 0x5A5A_5A5A;
+
+impl Filter {
+    fn mode(&self) -> LineBorderMode {
+        match self.border {
+            0 => LineBorderMode::Replicate,
+            1 => LineBorderMode::Reflect,
+            _ => LineBorderMode::Constant(self.border_value),
+        }
+    }
+
+    /// Document 01's refusals, first match wins.
+    fn refusal(&self) -> u8 {
+        let (s, d) = (&self.source, &self.destination);
+        if s.refusal() != 0 {
+            return s.refusal();
+        }
+        if self.call != Call::Estimate && d.refusal() != 0 {
+            return 5;
+        }
+        if self.call != Call::Estimate && (s.width, s.height) != (d.width, d.height) {
+            return 6;
+        }
+        if self.length < 3 || self.length % 2 == 0 || self.length > 2 * s.width.max(s.height) + 1 || !self.angle.is_finite() {
+            return 7;
+        }
+        let limit = if self.call == Call::Unsharp { 8.0 } else { 1.0 };
+        if self.call != Call::Unsharp && self.iterations == 0 || !(0.0..=limit).contains(&self.factor) {
+            return 8;
+        }
+        if self.call != Call::Unsharp && self.iterations > 22 {
+            return 9;
+        }
+        let pixels = s.width * s.height;
+        if self.scratch < 3 * pixels || self.call == Call::Estimate && self.estimates < pixels {
+            return 10;
+        }
+        0
+    }
+
+    fn ours(&self, bytes: &mut [u8], estimates: &mut [i32], scratch: &mut [i32], direction: &mut u8) -> u8 {
+        let (s, d) = (&self.source, &self.destination);
+        unsafe {
+            match self.call {
+                Call::Restore => smear_van_cittert_line(
+                    s.data.as_ptr(), s.data.len(), s.width, s.height, s.stride,
+                    bytes.as_mut_ptr(), bytes.len(), d.width, d.height, d.stride,
+                    self.angle, self.length, self.iterations, self.factor, self.border, self.border_value,
+                    scratch.as_mut_ptr(), scratch.len(), direction,
+                ),
+                Call::Estimate => smear_van_cittert_estimate(
+                    s.data.as_ptr(), s.data.len(), s.width, s.height, s.stride,
+                    estimates.as_mut_ptr(), estimates.len(),
+                    self.angle, self.length, self.iterations, self.factor, self.border, self.border_value,
+                    scratch.as_mut_ptr(), scratch.len(), direction,
+                ),
+                Call::Unsharp => smear_directional_unsharp_line(
+                    s.data.as_ptr(), s.data.len(), s.width, s.height, s.stride,
+                    bytes.as_mut_ptr(), bytes.len(), d.width, d.height, d.stride,
+                    self.angle, self.length, self.factor, self.border, self.border_value,
+                    scratch.as_mut_ptr(), scratch.len(), direction,
+                ),
+            }
+        }
+    }
+
+    /// The destination as the Rust leaves it.
+    fn theirs(&self) -> Vec<u8> {
+        let (s, d) = (&self.source, &self.destination);
+        let mut bytes = d.data.clone();
+        let view = Gray8ViewMut::new(&mut bytes, d.width, d.height, d.stride).expect("an accepted layout");
+        let (theta_radians, blur_length, border) = (self.angle, self.length, self.mode());
+        let done = if self.call == Call::Unsharp {
+            let config = DirectionalUnsharpConfig { theta_radians, blur_length, gain: self.factor, border };
+            directional_unsharp_line_into(s.view(), view, &config, &mut Default::default())
+        } else {
+            let config = VanCittertConfig { theta_radians, blur_length, iterations: self.iterations, relaxation: self.factor, border };
+            van_cittert_line_into(s.view(), view, &config, &mut Default::default())
+        };
+        done.expect("an accepted call");
+        bytes
+    }
+
+    /// The last estimate, by the document's words and in 64 bits.
+    fn estimate(&self) -> Vec<i64> {
+        let s = &self.source;
+        let (w, h) = (s.width as i64, s.height as i64);
+        let (dx, dy) = RasterDirection4::from_angle(self.angle).step();
+        let (dx, dy) = (dx as i64, dy as i64);
+        let q = (self.factor * 65_536.0).round() as i64;
+        let half = (self.length / 2) as i64;
+        let inside = |x: i64, y: i64| (0..w).contains(&x) && (0..h).contains(&y);
+        let observed: Vec<i64> = (0..h).flat_map(|y| (0..w).map(move |x| i64::from(s.data[y as usize * s.stride + x as usize]))).collect();
+        let mut estimate = observed.clone();
+        for _ in 0..self.iterations {
+            let last = estimate.clone();
+            for y in 0..h {
+                for x in 0..w {
+                    // how far the line goes either way from here
+                    let before = (1..).take_while(|k| inside(x - k * dx, y - k * dy)).count() as i64;
+                    let n = before + 1 + (1..).take_while(|k| inside(x + k * dx, y + k * dy)).count() as i64;
+                    let sample = |p: i64| {
+                        let place = match self.mode() {
+                            LineBorderMode::Replicate => p.clamp(0, n - 1),
+                            LineBorderMode::Constant(value) if !(0..n).contains(&p) => return i64::from(value),
+                            LineBorderMode::Constant(_) => p,
+                            LineBorderMode::Reflect if n == 1 => 0,
+                            LineBorderMode::Reflect => {
+                                let r = p.rem_euclid(2 * n - 2);
+                                r.min(2 * n - 2 - r)
+                            }
+                        };
+                        last[((y + (place - before) * dy) * w + x + (place - before) * dx) as usize]
+                    };
+                    let sum: i64 = (before - half..=before + half).map(sample).sum();
+                    let at = (y * w + x) as usize;
+                    estimate[at] = last[at] + (observed[at] - sum.div_euclid(self.length as i64)) * q / 65_536;
+                }
+            }
+        }
+        estimate
+    }
+}
+
+impl Case for Filter {
+    fn check(&self) -> Verdict {
+        let mut bytes = self.destination.data.clone();
+        let mut estimates = vec![OLD; self.estimates];
+        let mut scratch = vec![OLD; self.scratch];
+        let mut direction = 77;
+        let code = self.ours(&mut bytes, &mut estimates, &mut scratch, &mut direction);
+        if code != self.refusal() {
+            return Verdict::Differs(format!("refusal {code}, not {}", self.refusal()));
+        }
+        if code != 0 {
+            let kept = bytes == self.destination.data && estimates.iter().chain(&scratch).all(|&v| v == OLD) && direction == 77;
+            return if kept { Verdict::Refused } else { Verdict::Differs("a refusal changed something".into()) };
+        }
+        if direction != number(RasterDirection4::from_angle(self.angle)) {
+            return Verdict::Differs(format!("direction {direction}"));
+        }
+        if self.call == Call::Estimate {
+            let pixels = self.source.width * self.source.height;
+            if estimates[pixels..].iter().any(|&v| v != OLD) {
+                return Verdict::Differs("an estimate behind the last".into());
+            }
+            let theirs = self.estimate();
+            return match (0..pixels).find(|&i| i64::from(estimates[i]) != theirs[i]) {
+                None => Verdict::Alike,
+                Some(i) => Verdict::Differs(format!("estimate {i} is {}, not {}", estimates[i], theirs[i])),
+            };
+        }
+        let theirs = self.theirs();
+        match bytes.iter().zip(&theirs).position(|(a, b)| a != b) {
+            None => Verdict::Alike,
+            Some(place) => Verdict::Differs(format!("byte {place} is {}, the Rust's {}", bytes[place], theirs[place])),
+        }
+    }
+
+    fn smaller(&self) -> Vec<Self> {
+        let mut out = Vec::new();
+        if self.iterations > 1 {
+            out.push(Self { iterations: self.iterations - 1, ..self.clone() });
+        }
+        if self.length > 3 {
+            out.push(Self { length: self.length - 2, ..self.clone() });
+        }
+        for source in self.source.smaller() {
+            let pixels = source.width * source.height;
+            let destination = Picture { data: vec![0; pixels], stride: source.width, ..source };
+            out.push(Self { source, destination, estimates: pixels, scratch: 3 * pixels, ..self.clone() });
+        }
+        out
+    }
+}
+
+/// A relaxation or gain: common ones, those where q rounds, the limits, and what is refused.
+fn factor(random: &mut Random, limit: f64) -> f64 {
+    let half = (random.below(524_289) as f64 + 0.5) / 65_536.0;
+    match random.below(12) {
+        0..=3 => limit.min(1.0),
+        4 => random.unit() * limit,
+        5 => half.min(limit),
+        6 => f64::from_bits(half.to_bits() - 1).min(limit),
+        7 => 0.1,
+        8 => [0.0, -0.0, limit, 2f64.powi(-17), f64::from_bits(1)][random.below(5) as usize],
+        9 => 1.5f64.min(limit),
+        10 => 0.5,
+        _ => [f64::NAN, f64::INFINITY, -f64::MIN_POSITIVE, f64::from_bits(limit.to_bits() + 1), -1.0][random.below(5) as usize],
+    }
+}
+
+fn angle(random: &mut Random) -> f64 {
+    match random.below(16) {
+        0 => [f64::NAN, f64::INFINITY, f64::NEG_INFINITY][random.below(3) as usize],
+        1..=4 => (random.unit() - 0.5) * 20.0,
+        k => [0.0, 0.75, 1.5, 2.25][k as usize % 4],
+    }
+}
+
+fn case(random: &mut Random, call: Call, width: usize, height: usize) -> Filter {
+    let pixels = width * height;
+    let reach = 2 * width.max(height) + 1;
+    let odd = 3 + 2 * random.below(reach as u64 / 2) as usize;
+    let length = match random.below(12) {
+        0 => [0, 1, 2, reach + 1, reach + 2, usize::MAX, usize::MAX - 1, odd + 1][random.below(8) as usize],
+        1 => reach,
+        2..=6 => 3.min(reach),
+        _ => odd.min(reach),
+    };
+    let iterations = match random.below(14) {
+        0 => [0, 23, usize::MAX, 22][random.below(4) as usize],
+        1 => 22,
+        _ => 1 + random.below(5) as usize,
+    };
+    let mut out = Filter {
+        call,
+        source: Picture::random(random, width, height),
+        destination: Picture::random(random, width, height),
+        estimates: pixels + random.below(3) as usize,
+        angle: angle(random),
+        length,
+        iterations,
+        factor: factor(random, if call == Call::Unsharp { 8.0 } else { 1.0 }),
+        border: [0, 1, 2, 2, 255][random.below(5) as usize],
+        border_value: random.below(256) as u8,
+        scratch: 3 * pixels + random.below(3) as usize,
+    };
+    match random.below(40) {
+        0 => out.source = out.source.damaged(random),
+        1 => out.destination = out.destination.damaged(random),
+        2 => out.destination = Picture::random(random, width + 1, height),
+        3 => out.scratch = 3 * pixels - 1,
+        4 => out.estimates = pixels - 1,
+        _ => {}
+    }
+    out
+}
+
+pub fn compare(random: &mut Random, scale: usize, call: Call) -> Tally {
+    let mut tally = Tally::new(match call {
+        Call::Restore => "van_cittert_line",
+        Call::Estimate => "van_cittert_estimate",
+        Call::Unsharp => "directional_unsharp_line",
+    });
+    for _ in 0..20_000 * scale {
+        let (width, height) = size(random);
+        tally.check(case(random, call, width, height));
+    }
+    if call == Call::Estimate {
+        return tally;
+    }
+    // large ones, with as many iterations as there may be, in each direction
+    for angle in [0.0, 0.75, 1.5, 2.25] {
+        let border = random.below(3) as u8;
+        let large = case(random, call, 1024, 1024);
+        tally.check(Filter { angle, length: 31, iterations: 22, factor: 1.0, border, ..large });
+    }
+    tally
+}

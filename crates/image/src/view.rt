@@ -3,7 +3,7 @@ ghost use mathlib.Core.Path.{_≡_};
 ghost use lib.ListN.{length};
 ghost use Rattle.image.specs.Refusal.{layoutRefusal};
 ghost use Rattle.image.specs.Picture.{pixelOf, rowOf};
-ghost use Rattle.image.specs.View.{viewOf, viewMutOf};
+ghost use Rattle.image.specs.View.{viewOf, viewMutOf, OnlyReads};
 use crate::Pixel;
 
 // A picture to be read.
@@ -22,26 +22,12 @@ pub struct Gray8ViewMut<'a> {
     pub stride: usize,
 }
 
-// The work of `refusal`, on the parts of a view.
-fn slice_refusal(data: &[u8], width: usize, height: usize, stride: usize) -> u8
-    ensures { λ r. ⌜ r ≡ layoutRefusal (length (now («data» .entry))) width height stride ⌝ }
-{
-    crate::layout_refusal(data.len(), width, height, stride)
-}
-
-// The same where the bytes can be written: they stay as they are.
-fn slice_mut_refusal(data: &mut [u8], width: usize, height: usize, stride: usize) -> u8
-    ensures { λ r. ⌜ (r ≡ layoutRefusal (length (now («data» .entry))) width height stride) × (now («data» .exit) ≡ now («data» .entry)) ⌝ }
-{
-    crate::layout_refusal(data.len(), width, height, stride)
-}
-
 impl<'a> Gray8View<'a> {
     pub fn new(data: &'a [u8], width: usize, height: usize, stride: usize) -> Gray8View<'a>
         ensures { λ r. ⌜ r ≡ viewOf («data» .entry) width height stride ⌝ }
     {
         Gray8View {
-            data,
+            data: &*data,
             width,
             height,
             stride,
@@ -52,7 +38,7 @@ impl<'a> Gray8View<'a> {
     pub fn refusal(self) -> u8
         ensures { λ r. ⌜ r ≡ layoutRefusal (length (now (self .entry .«data»))) (self .entry .width) (self .entry .height) (self .entry .stride) ⌝ }
     {
-        slice_refusal(self.data, self.width, self.height, self.stride)
+        crate::layout_refusal(self.data.len(), self.width, self.height, self.stride)
     }
 
     pub fn row(self, y: usize) -> &'a [u8]
@@ -100,26 +86,26 @@ impl<'a> Gray8ViewMut<'a> {
 
     // Refusals 1 to 4 of the layout; 0 where it is accepted.
     pub fn refusal(self) -> u8
-        ensures { λ r. ⌜ (r ≡ layoutRefusal (length (now (self .entry .«data»))) (self .entry .width) (self .entry .height) (self .entry .stride))
-            × (now (self .exit .0) ≡ now (self .entry .«data»)) ⌝ }
+        ensures { λ r. ⌜ OnlyReads (now (self .entry .«data»)) (now (self .exit .0)) r
+            (layoutRefusal (length (now (self .entry .«data»))) (self .entry .width) (self .entry .height) (self .entry .stride)) ⌝ }
     {
-        slice_mut_refusal(&mut *self.data, self.width, self.height, self.stride)
+        crate::layout_refusal(self.data.len(), self.width, self.height, self.stride)
     }
 
     pub fn width(self) -> usize
-        ensures { λ n. ⌜ (n ≡ self .entry .width) × (now (self .exit .0) ≡ now (self .entry .«data»)) ⌝ }
+        ensures { λ n. ⌜ OnlyReads (now (self .entry .«data»)) (now (self .exit .0)) n (self .entry .width) ⌝ }
     {
         self.width
     }
 
     pub fn height(self) -> usize
-        ensures { λ n. ⌜ (n ≡ self .entry .height) × (now (self .exit .0) ≡ now (self .entry .«data»)) ⌝ }
+        ensures { λ n. ⌜ OnlyReads (now (self .entry .«data»)) (now (self .exit .0)) n (self .entry .height) ⌝ }
     {
         self.height
     }
 
     pub fn stride(self) -> usize
-        ensures { λ n. ⌜ (n ≡ self .entry .stride) × (now (self .exit .0) ≡ now (self .entry .«data»)) ⌝ }
+        ensures { λ n. ⌜ OnlyReads (now (self .entry .«data»)) (now (self .exit .0)) n (self .entry .stride) ⌝ }
     {
         self.stride
     }

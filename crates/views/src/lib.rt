@@ -7,6 +7,7 @@ ghost use Rattle.deblur.specs.Settings.{restorationOf, unsharpOf};
 ghost use Rattle.job.specs.Job.{Restored};
 ghost use Rattle.raster.specs.Direction.{fromAngle};
 ghost use Rattle.sharpen.specs.Call.{Sharpened};
+ghost use Rattle.views.specs.Pictures.{into, over};
 use blur::length::LengthAnswer;
 use blur::length::LineLengthConfig;
 use blur::swings::Swing;
@@ -21,7 +22,7 @@ use job::JobConfig;
 use sharpen::SharpenAnswer;
 
 pub fn estimate_line_direction<'a>(src: Gray8View<'a>) -> DirectionAnswer
-    ensures { λ r. ⌜ r ≡ directionAnswer (now (src .entry .«data»)) (src .entry .width) (src .entry .height) (src .entry .stride) ⌝ }
+    ensures { λ r. ⌜ r ≡ over directionAnswer (src .entry) ⌝ }
 {
     blur::tensor::estimate_line_direction(src.data, src.width, src.height, src.stride)
 }
@@ -32,8 +33,7 @@ pub fn estimate_line_length_with<'a>(
     config: LineLengthConfig,
     swings: &mut [Swing],
 ) -> LengthAnswer
-    ensures { λ r. ⌜ Measured (now (src .entry .«data»)) (src .entry .width) (src .entry .height) (src .entry .stride)
-        (fromAngle «theta_radians») (config .«minimum_transitions») (config .«minimum_amplitude»)
+    ensures { λ r. ⌜ over Measured (src .entry) (fromAngle «theta_radians») (config .«minimum_transitions») (config .«minimum_amplitude»)
         (now (swings .entry)) (now (swings .exit)) r ⌝ }
 {
     blur::length::estimate_line_length_with(
@@ -52,8 +52,7 @@ pub fn estimate_line_length<'a>(
     theta_radians: f64,
     swings: &mut [Swing],
 ) -> LengthAnswer
-    ensures { λ r. ⌜ Measured (now (src .entry .«data»)) (src .entry .width) (src .entry .height) (src .entry .stride)
-        (fromAngle «theta_radians») (defaults .«minimum_transitions») (defaults .«minimum_amplitude»)
+    ensures { λ r. ⌜ over Measured (src .entry) (fromAngle «theta_radians») (defaults .«minimum_transitions») (defaults .«minimum_amplitude»)
         (now (swings .entry)) (now (swings .exit)) r ⌝ }
 {
     blur::length::estimate_line_length(
@@ -72,8 +71,7 @@ pub fn van_cittert_line_into<'a, 'b>(
     config: VanCittertConfig,
     scratch: &mut [i32],
 ) -> RestorationAnswer
-    ensures { λ r. ⌜ Filtered (now (src .entry .«data»)) (src .entry .width) (src .entry .height) (src .entry .stride)
-        (now (dst .entry .«data»)) (now (dst .exit .0)) (dst .entry .width) (dst .entry .height) (dst .entry .stride)
+    ensures { λ r. ⌜ into (over Filtered (src .entry)) (dst .entry) (now (dst .exit .0))
         (restorationOf config) (now (scratch .entry)) (now (scratch .exit)) r ⌝ }
 {
     deblur::van_cittert_line_into(
@@ -96,7 +94,7 @@ pub fn van_cittert_estimate_into<'a>(
     config: VanCittertConfig,
     scratch: &mut [i32],
 ) -> RestorationAnswer
-    ensures { λ r. ⌜ Estimated (now (src .entry .«data»)) (src .entry .width) (src .entry .height) (src .entry .stride)
+    ensures { λ r. ⌜ over Estimated (src .entry)
         (now (dst .entry)) (now (dst .exit)) (restorationOf config) (now (scratch .entry)) (now (scratch .exit)) r ⌝ }
 {
     deblur::van_cittert_estimate_into(
@@ -116,8 +114,7 @@ pub fn directional_unsharp_line_into<'a, 'b>(
     config: DirectionalUnsharpConfig,
     scratch: &mut [i32],
 ) -> RestorationAnswer
-    ensures { λ r. ⌜ Filtered (now (src .entry .«data»)) (src .entry .width) (src .entry .height) (src .entry .stride)
-        (now (dst .entry .«data»)) (now (dst .exit .0)) (dst .entry .width) (dst .entry .height) (dst .entry .stride)
+    ensures { λ r. ⌜ into (over Filtered (src .entry)) (dst .entry) (now (dst .exit .0))
         (unsharpOf config) (now (scratch .entry)) (now (scratch .exit)) r ⌝ }
 {
     deblur::directional_unsharp_line_into(
@@ -139,9 +136,8 @@ pub fn fixed_binomial_unsharp_into<'a, 'b>(
     dst: Gray8ViewMut<'b>,
     scratch: &mut [u16],
 ) -> SharpenAnswer
-    ensures { λ r. ⌜ Sharpened (now (src .entry .«data»)) (src .entry .width) (src .entry .height) (src .entry .stride)
-        (now (dst .entry .«data»)) (dst .entry .width) (dst .entry .height) (dst .entry .stride)
-        (now (scratch .entry)) (now (dst .exit .0)) (now (scratch .exit)) r ⌝ }
+    ensures { λ r. ⌜ into (λ before after w h s. over Sharpened (src .entry) before w h s (now (scratch .entry)) after (now (scratch .exit)) r)
+        (dst .entry) (now (dst .exit .0)) ⌝ }
 {
     sharpen::fixed_binomial_unsharp_into(
         src.data,
@@ -163,8 +159,7 @@ pub fn restore<'a, 'b>(
     scratch: &mut [i32],
     swings: &mut [Swing],
 ) -> JobAnswer
-    ensures { λ r. ⌜ Restored (now (src .entry .«data»)) (src .entry .width) (src .entry .height) (src .entry .stride)
-        (now (dst .entry .«data»)) (now (dst .exit .0)) (dst .entry .width) (dst .entry .height) (dst .entry .stride) config
+    ensures { λ r. ⌜ into (over Restored (src .entry)) (dst .entry) (now (dst .exit .0)) config
         (now (scratch .entry)) (now (scratch .exit)) (now (swings .entry)) (now (swings .exit)) r ⌝ }
 {
     job::restore(

@@ -1,0 +1,2 @@
+-- What the contracts of `views` cite.
+pub mod Pictures

@@ -1,0 +1,181 @@
+-- Document 01's cases that are marked ★: all of them, in the document's order, are one list, and one theorem says that each has the value beside it. What a case has is
+-- told by the definitions that the calls' contracts cite.
+use Prim.Native.Nat.{ℕ, zero, suc, _*_}
+use mathlib.Core.List.{List, [], _∷_, _++_, map}
+use mathlib.Core.Path.{_≡_, refl}
+use lib.IntN.{ℤ, pos, negsuc}
+use lib.Ieee.{binary64, ofBits, ofInt, add, sub, mul, div, rem, le, lt, eq}
+use lib.ListN.{length, getD}
+use Rattle.numbers.specs.Scalar.{clampByte}
+use Rattle.numbers.specs.Sum.{total, count}
+use Rattle.floats.specs.Factor.{within, roundedQ16, quantized}
+use Rattle.floats.specs.declared.Quantized.{Quantized}
+use Rattle.floats.specs.declared.Quantized.the-variants.{Q16}
+use Rattle.image.specs.Picture.{pixel}
+use Rattle.image.specs.Refusal.{layoutRefusal, pairRefusal}
+use Rattle.raster.specs.Border.{borderMap}
+use Rattle.raster.specs.Direction.{fromAngle}
+use Rattle.raster.specs.Lines.{startCol, startRow, lineOf}
+use Rattle.raster.specs.declared.border.LineBorderMode.{LineBorderMode}
+use Rattle.raster.specs.declared.border.LineBorderMode.the-variants.{Replicate, Reflect}
+use Rattle.raster.specs.declared.border.BorderSample.{BorderSample}
+use Rattle.raster.specs.declared.border.BorderSample.the-variants.{Inside}
+use Rattle.raster.specs.declared.direction.RasterDirection4.{RasterDirection4}
+use Rattle.raster.specs.declared.direction.RasterDirection4.the-variants.{Horizontal, DownRight}
+use Rattle.blur.specs.Length.{lengthAnswer}
+use Rattle.blur.specs.Rise.{levelOf, crossedAt, placeAt, crossingOf, riseBetween, riseOf}
+use Rattle.blur.specs.Runs.{runsFrom, runsAfter}
+use Rattle.blur.specs.Swings.{swingsOf, lineSwings, swingsFrom}
+use Rattle.blur.specs.Tensor.{gradientX, gradientY, rowSum, interiorSum, tensorSums, tensorDirection, estimateOf}
+use Rattle.blur.specs.declared.length.LengthAnswer.{LengthAnswer}
+use Rattle.blur.specs.declared.length.LengthAnswer.the-variants.{Length}
+use Rattle.blur.specs.declared.length.LineLength.the-variants.{Found, Nothing}
+use Rattle.deblur.specs.Calls as calls
+use Rattle.deblur.specs.Line.{sample, window, mean, stepped, after}
+use Rattle.deblur.specs.Picture.{estimate, estimateOn}
+use Rattle.deblur.specs.Refusal as deblur
+use Rattle.deblur.specs.Settings.{restorationOf, unsharpOf}
+use Rattle.deblur.specs.declared.LineSettings.{LineSettings}
+use Rattle.sharpen.specs.Binomial.{tapPlace, binomialSum, sharper, unsharp}
+use Rattle.sharpen.specs.Call.{binomialRefusal}
+use Rattle.job.specs.Job.{jobOf, settingsRefusal, jobRefusal, pictureDirection, plan}
+use Rattle.job.specs.declared.JobAnswer.{JobAnswer}
+use Rattle.job.specs.declared.JobAnswer.the-variants.{Refused}
+
+-- ---- the document's pictures, without padding
+
+-- "Three equal rows 0 0 0 50 100 150 200 250 250 250"
+ramp : List ℕ
+ramp = 0 ∷ 0 ∷ 0 ∷ 50 ∷ 100 ∷ 150 ∷ 200 ∷ 250 ∷ 250 ∷ 250 ∷ []
+
+three-ramps : List ℕ
+unfolding ramp
+three-ramps = ramp ++ ramp ++ ramp
+
+-- "Row 10 10 40 10 10"
+row : List ℕ
+row = 10 ∷ 10 ∷ 40 ∷ 10 ∷ 10 ∷ []
+
+-- ---- what a case asks, and what it gives. A double is given by its bits.
+
+data Question : Type 0 where
+  -- "Direction from an angle"
+  direction-of : ℕ → Question
+  -- "Length": that of the three ramps along Horizontal, by the minimum
+  length-of-ramps : ℕ → Question
+  -- "Mean along a line": where the sample at a place of a line of n comes from
+  sample-at : LineBorderMode → ℕ → ℤ → Question
+  -- "Mean along a line": of the samples of a line, over a length, at a place
+  mean-of : List ℤ → ℕ → ℕ → Question
+  -- "Restoration and line unsharp": q of a relaxation
+  q-of : ℕ → Question
+  -- "Restoration and line unsharp": the row with relaxation 1, by the iterations, and with a gain
+  row-restored : ℕ → Question
+  row-sharpened : ℕ → Question
+  -- "Whole job and exact run": the three ramps, by the minimum
+  job-on-ramps : ℕ → Question
+  -- "Binomial unsharp": the row
+  row-binomial : Question
+
+data Answer : Type 0 where
+  direction : RasterDirection4 → Answer
+  measured : LengthAnswer → Answer
+  source : BorderSample → Answer
+  level : ℤ → Answer
+  factor : Quantized → Answer
+  pixels : List ℕ → Answer
+  refused : ℕ → Answer
+  planned : JobAnswer → Answer
+
+-- the row's pixels after a call, or the call's refusal
+written : ℕ → (ℕ → ℕ → ℕ) → Answer
+written zero f = pixels (map (λ c. f c 0) (0 ∷ 1 ∷ 2 ∷ 3 ∷ 4 ∷ []))
+written (suc number) f = refused (suc number)
+
+-- the row through a line filter, with the scratch that is asked
+filtered : LineSettings → Answer
+unfolding row written
+filtered s = written (deblur.filterRefusal 5 5 1 5 5 5 1 5 s 15) (λ c r. clampByte (calls.estimateOf row 5 1 5 s c r))
+
+value : Question → Answer
+unfolding three-ramps row written filtered
+value (direction-of angle) = direction (fromAngle (ofBits binary64 angle))
+value (length-of-ramps minimum) = measured (lengthAnswer three-ramps 10 3 10 Horizontal minimum 24 30)
+value (sample-at border n p) = source (borderMap border n p)
+value (mean-of line L p) = level (mean (borderMap Replicate (length line)) (λ i. getD line i (pos 0)) L p)
+value (q-of relaxation) = factor (quantized 1 (ofBits binary64 relaxation))
+value (row-restored iterations) =
+    filtered
+    (restorationOf
+    (record {
+      «theta_radians» = ofBits binary64 0;
+      «blur_length» = 3;
+      iterations = iterations;
+      relaxation = ofBits binary64 0x3ff0_0000_0000_0000;
+      border = Replicate;
+    }))
+value (row-sharpened gain) =
+    filtered
+    (unsharpOf
+    (record {
+      «theta_radians» = ofBits binary64 0;
+      «blur_length» = 3;
+      gain = ofBits binary64 gain;
+      border = Replicate;
+    }))
+value (job-on-ramps minimum) =
+    planned
+    (plan
+    (jobOf three-ramps 10 3 10 30 10 3 10
+    (record {
+      «minimum_transitions» = minimum;
+      «minimum_amplitude» = 24;
+      iterations = 1;
+      relaxation = ofBits binary64 0x3ff0_0000_0000_0000;
+      border = Replicate;
+    })
+    90 30))
+value row-binomial = written (binomialRefusal 5 5 1 5 5 5 1 5 5) (unsharp (pixel row 5) 5 1)
+
+-- ---- the list
+
+record Case : Type 0 where
+  asked : Question
+  must-be : Answer
+
+infix 68 _gives_
+_gives_ : Question → Answer → Case
+q gives a = record { asked = q; must-be = a }
+
+cases : List Case
+unfolding _gives_
+cases =
+    -- "0.39 gives Horizontal★, 0.40 DownRight★, .. NaN Horizontal★"
+    direction-of 0x3fd8_f5c2_8f5c_28f6 gives direction Horizontal
+    ∷ direction-of 0x3fd9_9999_9999_999a gives direction DownRight
+    ∷ direction-of 0x7ff8_0000_0000_0000 gives direction Horizontal
+    -- "5.0 with minimum 3★, Nothing with 4★"
+    ∷ length-of-ramps 3 gives measured (Length (Found (ofBits binary64 0x4014_0000_0000_0000)))
+    ∷ length-of-ramps 4 gives measured (Length Nothing)
+    -- "n = 4, Reflect: −2 gives 2★, 7 gives 1★. Samples −1, 0, 0, L = 3, middle: −1★."
+    ∷ sample-at Reflect 4 (negsuc 1) gives source (Inside 2)
+    ∷ sample-at Reflect 4 (pos 7) gives source (Inside 1)
+    ∷ mean-of (negsuc 0 ∷ pos 0 ∷ pos 0 ∷ []) 3 1 gives level (negsuc 0)
+    -- "0.1 gives 6,554★, 2^−17 gives 1★"
+    ∷ q-of 0x3fb9_9999_9999_999a gives factor (Q16 6554)
+    ∷ q-of 0x3ee0_0000_0000_0000 gives factor (Q16 1)
+    -- "one iteration 10 0 60 0 10★; two 14 0 80 0 14★ .. Line unsharp, gain 1.5: 10 0 70 0 10★"
+    ∷ row-restored 1 gives pixels (10 ∷ 0 ∷ 60 ∷ 0 ∷ 10 ∷ [])
+    ∷ row-restored 2 gives pixels (14 ∷ 0 ∷ 80 ∷ 0 ∷ 14 ∷ [])
+    ∷ row-sharpened 0x3ff8_0000_0000_0000 gives pixels (10 ∷ 0 ∷ 70 ∷ 0 ∷ 10 ∷ [])
+    -- "On the ramp above the direction is Vertical, so refusal 11★."
+    ∷ job-on-ramps 3 gives planned (Refused 11)
+    -- "The row above gives 8 2 59 2 8★."
+    ∷ row-binomial gives pixels (8 ∷ 2 ∷ 59 ∷ 2 ∷ 8 ∷ [])
+    ∷ []
+
+-- ---- the theorem
+
+stars : map (λ c. value (c .asked)) cases ≡ map (λ c. c .must-be) cases
+unfolding cases value ramp three-ramps row written filtered _gives_ fromAngle ofBits ofInt add sub mul div rem le lt eq lengthAnswer layoutRefusal pairRefusal startCol startRow lineOf swingsFrom lineSwings swingsOf runsAfter runsFrom riseOf levelOf crossedAt placeAt crossingOf riseBetween borderMap mean window sample total quantized within roundedQ16 calls.estimateOf deblur.filterRefusal deblur.settingsRefusal estimate estimateOn after stepped plan jobRefusal settingsRefusal pictureDirection estimateOf tensorSums tensorDirection interiorSum rowSum gradientX gradientY sharper binomialSum tapPlace count binomialRefusal
+stars = refl

@@ -1,0 +1,2 @@
+// Replays the Rust's answers.
+fn main() {}

@@ -1,5 +1,6 @@
 //! Compares the proved library with the Rust original: the same inputs, from a seeded generator, through the C interface.
 //! Usage: oracle [--seed N] [--count N]. Ends with status 1 at the first difference, which it prints as small as it can make it.
+//! oracle --vectors PATH instead writes the Rust's answers to chosen inputs.
 
 mod angle;
 mod binomial;
@@ -11,6 +12,7 @@ mod length;
 mod picture;
 mod random;
 mod restoration;
+mod vectors;
 
 use random::Random;
 use restoration::Call;
@@ -32,6 +34,10 @@ fn main() {
         match arg.as_str() {
             "--seed" => seed = number(args.next(), "--seed"),
             "--count" => count = number(args.next(), "--count"),
+            "--vectors" => {
+                let path = args.next().unwrap_or_else(|| "rust.vec".into());
+                return vectors::write(&path);
+            }
             _ => {
                 eprintln!("usage: oracle [--seed N] [--count N]    (N times the gate's number of inputs)");
                 std::process::exit(2);

@@ -1,0 +1,187 @@
+// The calls of the cases.
+use crate::case::Case;
+use crate::lengths::length_at;
+use blur::length::LengthAnswer;
+use blur::length::LineLength;
+use blur::tensor::DirectionAnswer;
+use blur::tensor::estimate_line_direction;
+use deblur::DirectionalUnsharpConfig;
+use deblur::RestorationAnswer;
+use deblur::VanCittertConfig;
+use deblur::directional_unsharp_line_into;
+use deblur::van_cittert_line_into;
+use raster::border::LineBorderMode;
+use raster::direction::RasterDirection4;
+use sharpen::fixed_binomial_unsharp_into;
+
+// What a call answered, as a case has it.
+pub struct Outcome {
+    pub number: u8,
+    pub found: u8,
+    pub estimate: f64,
+}
+
+fn refused(number: u8) -> Outcome {
+    Outcome {
+        number,
+        found: 0,
+        estimate: 0.0,
+    }
+}
+
+fn directed(direction: RasterDirection4) -> Outcome {
+    Outcome {
+        number: 0,
+        found: direction.index(),
+        estimate: 0.0,
+    }
+}
+
+fn direction_outcome(answer: DirectionAnswer) -> Outcome {
+    match answer {
+        DirectionAnswer::Direction(d) => {
+            let direction = d.direction;
+            directed(direction)
+        }
+        DirectionAnswer::Refused(number) => refused(number),
+    }
+}
+
+fn length_outcome(answer: LengthAnswer) -> Outcome {
+    match answer {
+        LengthAnswer::Length(measured) => match measured {
+            LineLength::Found(estimate) => Outcome {
+                number: 0,
+                found: 1,
+                estimate,
+            },
+            LineLength::Nothing => refused(0),
+        },
+        LengthAnswer::Refused(number) => refused(number),
+    }
+}
+
+fn restoration_outcome(answer: RestorationAnswer) -> Outcome {
+    match answer {
+        RestorationAnswer::Done(metadata) => {
+            let direction = metadata.raster_direction;
+            directed(direction)
+        }
+        RestorationAnswer::Refused(number) => refused(number),
+    }
+}
+
+fn border_of(c: Case) -> LineBorderMode {
+    let border = c.border;
+    match border {
+        0 => LineBorderMode::Replicate,
+        1 => LineBorderMode::Reflect,
+        _ => LineBorderMode::Constant(c.value),
+    }
+}
+
+fn restore(c: Case, source: &[u8], destination: &mut [u8]) -> Outcome {
+    let mut scratch = [0i32; 768];
+    let config = VanCittertConfig {
+        theta_radians: c.angle,
+        blur_length: c.blur_length,
+        iterations: c.count,
+        relaxation: c.factor,
+        border: border_of(c),
+    };
+    restoration_outcome(van_cittert_line_into(
+        source,
+        c.source.width,
+        c.source.height,
+        c.source.stride,
+        destination,
+        c.destination.width,
+        c.destination.height,
+        c.destination.stride,
+        config,
+        &mut scratch,
+    ))
+}
+
+fn unsharp(c: Case, source: &[u8], destination: &mut [u8]) -> Outcome {
+    let mut scratch = [0i32; 768];
+    let config = DirectionalUnsharpConfig {
+        theta_radians: c.angle,
+        blur_length: c.blur_length,
+        gain: c.factor,
+        border: border_of(c),
+    };
+    restoration_outcome(directional_unsharp_line_into(
+        source,
+        c.source.width,
+        c.source.height,
+        c.source.stride,
+        destination,
+        c.destination.width,
+        c.destination.height,
+        c.destination.stride,
+        config,
+        &mut scratch,
+    ))
+}
+
+fn binomial(c: Case, source: &[u8], destination: &mut [u8]) -> Outcome {
+    let mut scratch = [0u16; 256];
+    let answer = fixed_binomial_unsharp_into(
+        source,
+        c.source.width,
+        c.source.height,
+        c.source.stride,
+        destination,
+        c.destination.width,
+        c.destination.height,
+        c.destination.stride,
+        &mut scratch,
+    );
+    refused(answer.number())
+}
+
+fn measure(c: Case, source: &[u8]) -> Outcome {
+    length_outcome(length_at(
+        source,
+        c.source.width,
+        c.source.height,
+        c.source.stride,
+        c.angle,
+        c.count,
+        c.amplitude,
+    ))
+}
+
+fn direct(c: Case, source: &[u8]) -> Outcome {
+    direction_outcome(estimate_line_direction(
+        source,
+        c.source.width,
+        c.source.height,
+        c.source.stride,
+    ))
+}
+
+// The case's call. One that does not exist has an outcome that no case has.
+pub fn call(c: Case, source: &[u8], destination: &mut [u8]) -> Outcome {
+    let call = c.call;
+    match call {
+        0 => directed(RasterDirection4::from_angle(c.angle)),
+        1 => direct(c, source),
+        2 => measure(c, source),
+        3 => restore(c, source, destination),
+        4 => unsharp(c, source, destination),
+        5 => binomial(c, source, destination),
+        _ => refused(255),
+    }
+}
+
+// The Rust has one error for what the document numbers 7 and 8.
+fn rust_number(number: u8) -> u8 {
+    if number == 8 { 7 } else { number }
+}
+
+// A length is never 0 and never a NaN, so equal doubles have equal bits.
+pub fn agrees(o: Outcome, c: Case) -> bool {
+    (rust_number(o.number) == c.number) & (o.found == c.found) & (o.estimate == c.estimate)
+}

@@ -1,0 +1,35 @@
+// The length call with records of its own.
+ghost use mathlib.Core.Path.{_≡_};
+ghost use Rattle.raster.specs.Direction.{fromAngle};
+ghost use Rattle.blur.specs.Length.{lengthAnswer};
+use blur::length::LengthAnswer;
+use blur::length::estimate_at;
+use blur::swings::Swing;
+
+// The length of a picture of at most 256 pixels. Its contract says nothing of the records, so whoever calls it needs no walk.
+pub fn length_at(
+    data: &[u8],
+    width: usize,
+    height: usize,
+    stride: usize,
+    theta_radians: f64,
+    minimum_transitions: usize,
+    minimum_amplitude: u8,
+) -> LengthAnswer
+    ensures { λ r. ⌜ r ≡ lengthAnswer (now («data» .entry)) width height stride (fromAngle «theta_radians») «minimum_transitions» «minimum_amplitude» 256 ⌝ }
+{
+    let mut swings = [Swing {
+        width: 0.0,
+        swing: 0,
+    }; 256];
+    estimate_at(
+        data,
+        width,
+        height,
+        stride,
+        theta_radians,
+        minimum_transitions,
+        minimum_amplitude,
+        &mut swings,
+    )
+}

@@ -1,9 +1,10 @@
 -- Laws of the answers: when fields are checked, a record is read, and a slice is written.
 use mathlib.Core.Path.{_≡_, sym, ap, _∙_}
 use mathlib.Core.Bool.{true, false}
-use mathlib.Core.List.{List, _++_}
+use mathlib.Core.List.{List, [], _++_}
 use Prim.Native.Nat.{ℕ}
 use native.Mathlib.Nat.{le-of-eq}
+use native.Mathlib.Omega.{arith}
 use borrow.Author.Tests.{ne-eqb}
 use lib.ListN.{length, drop}
 use lib.Seq.{sets, sets-eq, drop-length}
@@ -11,8 +12,9 @@ use lib.Ieee.Scale.{finite}
 use Rattle.numbers.proofs.Test.{false-not-true, false-of-not}
 use Rattle.record.specs.Bytes.{bytesOf}
 use Rattle.record.specs.Fields.{decoded, encoded, legal}
-use Rattle.record.specs.Record.{recordOf, fieldsOf, checked, recordFields, readRecord, toWrite, Wrote}
+use Rattle.record.specs.Record.{recordOf, fieldsOf, checked, recordFields, readRecord, toWrite, writeNumber, writeBytes, Wrote}
 use Rattle.record.specs.declared.fields.Fields.{Fields}
+use Rattle.record.specs.declared.FieldsAnswer.{FieldsAnswer}
 use Rattle.record.specs.declared.FieldsAnswer.the-variants.{Legal, Broken}
 use Rattle.record.specs.declared.Record.{Record}
 use Rattle.record.specs.declared.ReadAnswer.the-variants as answer
@@ -73,3 +75,17 @@ module _ (r : Record) (old new : List ℕ) where
   pub wrote-short : (length old ≡ 32 → ⊥) → new ≡ old → Wrote r old new 13
   unfolding toWrite
   wrote-short n h = record { answers = rw (ne-eqb (length old) 32 n); bytes = rw (ne-eqb (length old) 32 n) h }
+
+  -- what was written into 32 bytes is what the record gives, whatever stood there
+  module _ (l : length old ≡ 32) where
+    pub wrote-number : (n : ℕ) → Wrote r old new n → n ≡ writeNumber (recordFields r)
+    unfolding toWrite
+    wrote-number n w = let a = w .answers in rw l at a
+
+    pub wrote-bytes : Wrote r old new 0 → new ≡ writeBytes (recordFields r) []
+    unfolding toWrite
+    wrote-bytes w = go (recordFields r) (wrote-number 0 w) (let b = w .bytes in rw l at b)
+      where
+        go : (z : FieldsAnswer) → 0 ≡ writeNumber z → new ≡ writeBytes z old → new ≡ writeBytes z []
+        go (Legal f) e b = b
+        go Broken e b = absurd (omega (arith, e))

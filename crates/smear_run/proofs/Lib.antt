@@ -1,0 +1,5 @@
+-- Laws of `smear_run`.
+pub mod Fronts
+pub mod Stages
+pub mod Printed
+pub mod Records

@@ -1,0 +1,82 @@
+-- What is printed, case by case; and what the call answers.
+use mathlib.Core.Path.{_≡_, refl, sym, ap, _∙_}
+use mathlib.Core.Bool.{true, false}
+use mathlib.Core.List.{List, _++_}
+use Prim.Native.Nat.{ℕ, _+_, _-_, _*_, _≤_, _<_}
+use native.Mathlib.Omega.{arith}
+use borrow.Author.Tests.{lt-ltb, le-ltb}
+use lib.ListN.{length, take, drop}
+use lib.Seq.{take-length, take-at, length-take-le}
+use Rattle.numbers.proofs.List.{length-part}
+use Rattle.record.specs.Record.{readRecord, isJob, Wrote}
+use Rattle.record.specs.declared.Record.{Record}
+use Rattle.record.specs.declared.ReadAnswer.the-variants as read
+use Rattle.record.proofs.Answer.{wrote-number, wrote-bytes}
+use Rattle.smear_run.specs.Stage.{stage}
+use Rattle.smear_run.specs.Output.{refusedText, tooLarge, thenRecord, printed, jobOutput, output, Ran}
+use Rattle.smear_run.specs.Parts.{Front, Filtered, finished}
+use Rattle.smear_run.specs.declared.filters.FilterAnswer.{FilterAnswer}
+use Rattle.smear_run.specs.declared.RunAnswer.the-variants.{Written, Refused}
+use Rattle.smear_run.proofs.Fronts.{front-joined}
+use Rattle.smear_run.proofs.Stages.{filtered-printed, refused-text}
+
+module _ (r : Record) (picture : List ℕ) where
+  pub no-job : isJob r ≡ false → jobOutput r picture ≡ refusedText 13
+  unfolding jobOutput
+  no-job e = rw e
+
+  pub too-large : isJob r ≡ true → 4096 < r .width * r .height → jobOutput r picture ≡ tooLarge
+  unfolding jobOutput
+  too-large e h = rw (e, lt-ltb 4096 (r .width * r .height) h)
+
+  pub of-stage : isJob r ≡ true → r .width * r .height ≤ 4096 → jobOutput r picture ≡ printed r (stage r picture)
+  unfolding jobOutput
+  of-stage e h = rw (e, le-ltb 4096 (r .width * r .height) h)
+
+  -- the filter's answer, and its pixels in a part that has come back as ys
+  pub stage-printed : (made ys : List ℕ) (answer : FilterAnswer) {new : List ℕ} {n : ℕ} → r .width * r .height ≤ length made
+      → length ys ≡ length (take (r .width * r .height) made) → Filtered (stage r picture) r (take (r .width * r .height) made) ys answer
+      → Front (finished answer (take (r .width * r .height) (ys ++ drop (r .width * r .height) made))) new n → Front (printed r (stage r picture)) new n
+  stage-printed made ys answer fits same f end =
+      let l = same ∙ length-take-le (r .width * r .height) made fits in
+      let front = take-at ys (drop (r .width * r .height) made) (r .width * r .height) l in
+      let p = filtered-printed r (take (r .width * r .height) made) ys answer (stage r picture) l f in
+      rw (← p, ← front) end
+
+-- ---- the record behind n pixels, in a part up to e
+
+module _ (r : Record) (n e : ℕ) (made ys : List ℕ) (number : ℕ) (behind : e ≡ n + 32) (fits : e ≤ length made) (w : Wrote r (take (e - n) (drop n made)) ys number) where
+  room : length (take (e - n) (drop n made)) ≡ 32
+  room = length-part n (e - n) made (omega arith) ∙ omega arith
+
+  pub then-refused : (number ≡ 0 → ⊥) → thenRecord (take n made) r ≡ refusedText number
+  then-refused some = let a = wrote-number r (take (e - n) (drop n made)) ys room number w in rw (← a) (refused-text number _ some)
+
+  pub then-written : number ≡ 0 → length ys ≡ length (take (e - n) (drop n made)) → Front (thenRecord (take n made) r) (take n made ++ (ys ++ drop (e - n) (drop n made))) e
+  then-written none same =
+      let w′ : Wrote r (take (e - n) (drop n made)) ys 0 = rw none at w in
+      let a = wrote-number r (take (e - n) (drop n made)) ys room 0 w′ in
+      let b = wrote-bytes r (take (e - n) (drop n made)) ys room w′ in
+      rw (← a, ← b) (front-joined n e made ys (omega arith) fits (same ∙ length-part n (e - n) made (omega arith)))
+
+module _ (job picture : List ℕ) where
+  pub of-record : {r : Record} → readRecord job ≡ read.Record r → output job picture ≡ jobOutput r picture
+  unfolding output
+  of-record e = rw e
+
+  pub of-refused : {number : ℕ} → readRecord job ≡ read.Refused number → output job picture ≡ refusedText number
+  unfolding output
+  of-refused e = rw e
+
+  -- ---- the call
+
+  module _ {made : List ℕ} {n : ℕ} (f : Front (output job picture) made n) (old : List ℕ) where
+    pub ran-short : length old < n → Ran job picture old old (Refused 10)
+    ran-short h = let t = lt-ltb (length old) (length (output job picture)) (rw (f .count) at h) in record { answered = rw t; bytes = rw t }
+
+    pub ran-whole : {new : List ℕ} → n ≤ length old → new ≡ take (length (take n made)) (take n made) ++ drop (length (take n made)) old → Ran job picture old new (Written n)
+    ran-whole h e =
+        let t = le-ltb (length old) (length (output job picture)) (rw (f .count) at h) in
+        let same = e ∙ ap (λ (xs : List ℕ). take (length xs) xs ++ drop (length xs) old) (f .bytes) in
+        let all = ap (λ (xs : List ℕ). xs ++ drop (length (output job picture)) old) (take-length (output job picture)) in
+        record { answered = rw t (ap Written (f .count)); bytes = rw t (same ∙ all) }

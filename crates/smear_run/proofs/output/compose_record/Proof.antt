@@ -1,0 +1,79 @@
+-- `smear_run::output::compose_record` meets its contract.
+use borrow.Author.Needs.{needs}
+use borrow.Author.Tests.{not-true, not-false}
+use Rattle.smear_run.proofs.Stages.{area-fits}
+use Rattle.smear_run.proofs.Printed.{no-job, too-large, of-stage, stage-printed}
+use mathlib.Core.Path.{sym, _∙_, ap}
+use native.Mathlib.Omega.{arith}
+use lib.Seq.{length-take-le}
+use Rattle.smear_run.proofs.output.compose_record.Statement.{statement}
+use Rattle.smear_run.proofs.output.compose_record.Tie as tie
+
+is-job-requires : tie.Need-is-job-requires
+is-job-requires c κs = search needs
+
+put-refusal-requires : tie.Need-put-refusal-requires
+put-refusal-requires c κs = search needs
+
+same-length : tie.Need-same-length
+same-length c = search needs
+
+returns : tie.Need-returns
+returns c = let r = c .before .before .before .before .before .before .before .before .args .«record» in rw (no-job r _ (sym (c .before .before .before .before .before .is-job .ensures) ∙ not-true _ (c .before .before .before .before .if1 .taken))) (c .before .before .put-refusal .ensures)
+
+cast-n : tie.Need-cast-n
+cast-n c = search needs
+
+cast-n-2 : tie.Need-cast-n-2
+cast-n-2 c = search needs
+
+mul-n : tie.Need-mul-n
+mul-n c = area-fits (omega (arith, c .before .struct-known .given)) (omega (arith, c .struct-known2 .given))
+
+put-too-large-requires : tie.Need-put-too-large-requires
+put-too-large-requires c κs = search needs
+
+same-length-2 : tie.Need-same-length-2
+same-length-2 c = search needs
+
+returns-2 : tie.Need-returns-2
+returns-2 c = let r = c .before .before .before .before .before .before .before .before .before .before .before .args .«record» in rw (too-large r _ (sym (c .before .before .before .before .before .before .before .before .is-job .ensures) ∙ not-false _ (c .before .before .before .before .before .before .before .if1 .left)) (c .before .before .before .before .if2 .taken)) (c .before .before .put-too-large .ensures)
+
+slice-relend-prefix-filter : tie.Need-slice-relend-prefix-filter
+slice-relend-prefix-filter c = search needs
+
+slice-aggregate-filter : tie.Need-slice-aggregate-filter
+slice-aggregate-filter c = sym (length-take-le _ _ (omega (arith, c .before .if2 .left)))
+
+filter-requires : tie.Need-filter-requires
+filter-requires c κs = length-take-le _ _ (omega (arith, c .before .if2 .left))
+
+finish-requires : tie.Need-finish-requires
+finish-requires c κs = search needs
+
+same-length-3 : tie.Need-same-length-3
+same-length-3 c = search needs
+
+returns-3 : tie.Need-returns-3
+returns-3 c = let a = c .before .before .before .before .before .before .before .before .before .before .before .before .before .before .before in let f = c .before .before .before .before .before .before .filter in rw (of-stage (a .args .«record») (a .args .picture .now) (sym (c .before .before .before .before .before .before .before .before .before .before .before .before .is-job .ensures) ∙ not-false _ (c .before .before .before .before .before .before .before .before .before .before .before .if1 .left)) (c .before .before .before .before .before .before .before .before .if2 .left)) (stage-printed (a .args .«record») (a .args .picture .now) (a .args .made .now) _ _ (omega (arith, c .before .before .before .before .before .before .before .before .if2 .left, a .pre)) (f .kept .1 .1 .0) (f .ensures) (c .before .before .finish .ensures))
+
+pub compose-record-spec : {M : Type 1} → statement M
+compose-record-spec =
+    tie.close
+    (tie.spec
+    is-job-requires
+    put-refusal-requires
+    same-length
+    returns
+    cast-n
+    cast-n-2
+    mul-n
+    put-too-large-requires
+    same-length-2
+    returns-2
+    slice-relend-prefix-filter
+    slice-aggregate-filter
+    filter-requires
+    finish-requires
+    same-length-3
+    returns-3)

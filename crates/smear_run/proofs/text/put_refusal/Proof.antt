@@ -1,0 +1,50 @@
+-- `smear_run::text::put_refusal` meets its contract.
+use borrow.Author.Needs.{needs}
+use Rattle.smear_run.proofs.Fronts.{one-digit, two-digits}
+use Rattle.smear_run.proofs.text.put_refusal.Statement.{statement}
+use Rattle.smear_run.proofs.text.put_refusal.Tie as tie
+
+add-low : tie.Need-add-low
+add-low c = search needs
+
+slice-aggregate-copy : tie.Need-slice-aggregate-copy
+slice-aggregate-copy c = search needs
+
+copy-requires : tie.Need-copy-requires
+copy-requires c κs = search needs
+
+same-length : tie.Need-same-length
+same-length c = search needs
+
+returns : tie.Need-returns
+returns c = let k = c .before .before .copy in one-digit _ (c .before .before .before .before .before .before .before .args .made .now) (c .before .before .before .before .before .if1 .taken) (k .ensures .0) (k .ensures .1)
+
+add-high : tie.Need-add-high
+add-high c = search needs
+
+slice-aggregate-copy-2 : tie.Need-slice-aggregate-copy-2
+slice-aggregate-copy-2 c = search needs
+
+copy-requires-2 : tie.Need-copy-requires-2
+copy-requires-2 c κs = search needs
+
+same-length-2 : tie.Need-same-length-2
+same-length-2 c = search needs
+
+returns-2 : tie.Need-returns-2
+returns-2 c = let k = c .before .before .copy2 in two-digits _ (c .before .before .before .before .before .before .before .args .made .now) (c .before .before .before .before .before .if1 .left) (k .ensures .0) (k .ensures .1)
+
+pub put-refusal-spec : {M : Type 1} → statement M
+put-refusal-spec =
+    tie.close
+    (tie.spec
+    add-low
+    slice-aggregate-copy
+    copy-requires
+    same-length
+    returns
+    add-high
+    slice-aggregate-copy-2
+    copy-requires-2
+    same-length-2
+    returns-2)

@@ -1,0 +1,63 @@
+-- `smear_run::whole_job::whole_job` meets its contract.
+use borrow.Author.Needs.{needs}
+use mathlib.Core.Path.{sym, ap, _∙_}
+use lib.IntN.{ℤ, pos}
+use lib.ListN.{length-replicate}
+use Rattle.smear_run.specs.Parts.{jobAnswer}
+use Rattle.smear_run.specs.declared.filters.FilterAnswer.the-variants.{Done}
+use Rattle.smear_run.proofs.Stages.{job-filtered, measured-short}
+use Rattle.smear_run.proofs.whole_job.whole_job.Statement.{statement}
+use Rattle.smear_run.proofs.whole_job.whole_job.Tie as tie
+
+cast-restore : tie.Need-cast-restore
+cast-restore c = search needs
+
+cast-restore-2 : tie.Need-cast-restore-2
+cast-restore-2 c = search needs
+
+job-config-requires : tie.Need-job-config-requires
+job-config-requires c κs = search needs
+
+slice-aggregate-restore : tie.Need-slice-aggregate-restore
+slice-aggregate-restore c = search needs
+
+restore-requires : tie.Need-restore-requires
+restore-requires c κs = search needs
+
+enum-known-result : tie.Need-enum-known-result
+enum-known-result c = search needs
+
+with-result-requires : tie.Need-with-result-requires
+with-result-requires c κs = measured-short (c .before .before .before .before .before .before .restore .ensures) (c .before .result .given .1)
+
+enum-known-number : tie.Need-enum-known-number
+enum-known-number c = search needs
+
+same-length : tie.Need-same-length
+same-length c = search needs
+
+returns : tie.Need-returns
+returns c = let a = c .before .before .before .before .before .before .before in job-filtered _ _ _ _ _ _ (a .before .before .job-config .ensures) (a .before .before .before .before .before .before .before .before .pre) (length-replicate {A = ℤ} 12288 (pos 0)) (a .restore .ensures) (ap Done (c .with-result .ensures) ∙ sym (ap (jobAnswer _) (c .before .before .result .given .1)))
+
+same-length-2 : tie.Need-same-length-2
+same-length-2 c = search needs
+
+returns-2 : tie.Need-returns-2
+returns-2 c = let a = c .before .before .before .before .before .before in job-filtered _ _ _ _ _ _ (a .before .before .job-config .ensures) (a .before .before .before .before .before .before .before .before .pre) (length-replicate {A = ℤ} 12288 (pos 0)) (a .restore .ensures) (sym (ap (jobAnswer _) (c .before .number .given .1)))
+
+pub whole-job-spec : {M : Type 1} → statement M
+whole-job-spec =
+    tie.close
+    (tie.spec
+    cast-restore
+    cast-restore-2
+    job-config-requires
+    slice-aggregate-restore
+    restore-requires
+    enum-known-result
+    with-result-requires
+    enum-known-number
+    same-length
+    returns
+    same-length-2
+    returns-2)

@@ -1,0 +1,75 @@
+-- What the program prints (document 01, "The 32-byte record"), as a list of bytes that the bytes of its two files give.
+use mathlib.Core.Path.{_≡_}
+use mathlib.Core.Bool.{cond}
+use mathlib.Core.List.{List, [], _∷_, _++_}
+use Prim.Native.Nat.{ℕ, zero, suc, _+_, _*_, _/_, _%_}
+use lib.Dec.{ltb}
+use lib.ListN.{length, drop}
+use Rattle.record.specs.Record.{recordFields, writeNumber, writeBytes, readRecord, isJob}
+use Rattle.record.specs.declared.Record.{Record}
+use Rattle.record.specs.declared.ReadAnswer.{ReadAnswer}
+use Rattle.record.specs.declared.ReadAnswer.the-variants as read
+use Rattle.smear_run.specs.Stage.{Outcome, done, refused, stage}
+use Rattle.smear_run.specs.declared.RunAnswer.{RunAnswer}
+use Rattle.smear_run.specs.declared.RunAnswer.the-variants.{Written, Refused}
+
+-- ---- the texts: "both texts end in a line feed"
+
+-- `refused N`; a number below 100
+unfoldable pub refusedText : ℕ → List ℕ
+refusedText n =
+    114 ∷ 101 ∷ 102 ∷ 117 ∷ 115 ∷ 101 ∷ 100 ∷ 32 ∷ cond (ltb n 10) ((48 + n % 10) ∷ 10 ∷ []) ((48 + n / 10) ∷ (48 + n % 10) ∷ 10 ∷ [])
+
+-- `too large`
+abbrev pub tooLarge : List ℕ
+tooLarge = 116 ∷ 111 ∷ 111 ∷ 32 ∷ 108 ∷ 97 ∷ 114 ∷ 103 ∷ 101 ∷ 10 ∷ []
+
+-- ---- "pixels, then the result"
+
+-- f 0, f 1, .. , n of them
+unfoldable pub tabulate : (ℕ → ℕ) → ℕ → List ℕ
+tabulate f zero = []
+tabulate f (suc n) = f 0 ∷ tabulate (λ i. f (suc i)) n
+
+-- tight: pixel (c, r) is byte r × width + c
+abbrev pub pixelsOf : ℕ → ℕ → (ℕ → ℕ → ℕ) → List ℕ
+pixelsOf width height px = tabulate (λ i. px (i % width) (i / width)) (width * height)
+
+-- 0 is no refusal
+abbrev pub orRefused : ℕ → List ℕ → List ℕ
+orRefused zero xs = xs
+orRefused (suc number) xs = refusedText (suc number)
+
+-- the result's 32 bytes behind the pixels, unless its record is one that 13 refuses to write
+abbrev pub thenRecord : List ℕ → Record → List ℕ
+thenRecord pixels result = orRefused (writeNumber (recordFields result)) (pixels ++ writeBytes (recordFields result) [])
+
+abbrev pub printed : Record → Outcome → List ℕ
+printed r (done result px) = thenRecord (pixelsOf (r .width) (r .height) px) result
+printed r (refused number) = refusedText number
+
+-- ---- "A record that is no job gives 13; next, width × height above 4,096 prints `too large`; a refusal prints `refused N`."
+
+unfoldable pub jobOutput : Record → List ℕ → List ℕ
+jobOutput r picture =
+    cond (isJob r) (cond (ltb 4096 (r .width * r .height)) tooLarge (printed r (stage r picture))) (refusedText 13)
+
+abbrev pub outputOf : ReadAnswer → List ℕ → List ℕ
+outputOf (read.Record r) picture = jobOutput r picture
+outputOf (read.Refused number) picture = refusedText number
+
+unfoldable pub output : List ℕ → List ℕ → List ℕ
+unfolding jobOutput
+output job picture = outputOf (readRecord job) picture
+
+-- ---- the call: the output in the front of the slice, the rest as before; 10 where the slice is shorter, which leaves it as it was
+
+abbrev pub answerOf : ℕ → List ℕ → RunAnswer
+answerOf room xs = cond (ltb room (length xs)) (Refused 10) (Written (length xs))
+
+abbrev pub bytesOf : List ℕ → List ℕ → List ℕ
+bytesOf old xs = cond (ltb (length old) (length xs)) old (xs ++ drop (length xs) old)
+
+pub record Ran (job picture old new : List ℕ) (answer : RunAnswer) : Type 0 where
+  pub answered : answer ≡ answerOf (length old) (output job picture)
+  pub bytes : new ≡ bytesOf old (output job picture)

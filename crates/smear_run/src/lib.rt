@@ -1,0 +1,29 @@
+// The program's work on slices: a job's record and a picture in, what is printed out.
+ghost use Rattle.smear_run.specs.Output.{Ran};
+use crate::output::compose;
+
+mod filters;
+mod output;
+mod text;
+mod whole_job;
+
+pub enum RunAnswer {
+    // How many bytes are printed.
+    Written(usize),
+    // The number of the refusal.
+    Refused(u8),
+}
+
+// What the program prints for a job's record and a tight picture, in the front of `out`: pixels and the result's record, or a text. 10 where
+// `out` is shorter than that, which is at most 4,128 bytes. On the stack: 4,128 bytes here, and what the filter owns (`filters`, `whole_job`).
+pub fn run(job: &[u8], picture: &[u8], out: &mut [u8]) -> RunAnswer
+    ensures { λ r. ⌜ Ran (now (job .entry)) (now (picture .entry)) (now (out .entry)) (now (out .exit)) r ⌝ }
+{
+    let mut made = [0u8; 4128];
+    let n = compose(job, picture, &mut made);
+    if out.len() < n {
+        return RunAnswer::Refused(10);
+    }
+    bytes::copy(&made[..n], out);
+    RunAnswer::Written(n)
+}

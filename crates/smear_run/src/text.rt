@@ -1,0 +1,40 @@
+// The texts that the program prints, at the front of a slice.
+ghost use Prim.Native.Nat.{_≤_};
+ghost use lib.ListN.{length};
+ghost use Rattle.smear_run.specs.Output.{refusedText, tooLarge};
+ghost use Rattle.smear_run.specs.Parts.{Front};
+
+pub(crate) fn put_too_large(made: &mut [u8]) -> usize
+    requires { ⌜ 10 ≤ length (now made) ⌝ }
+    ensures { λ r. ⌜ Front tooLarge (now (made .exit)) r ⌝ }
+{
+    let text = [b't', b'o', b'o', b' ', b'l', b'a', b'r', b'g', b'e', b'\n'];
+    bytes::copy(&text, made)
+}
+
+// The number has one digit or two.
+pub(crate) fn put_refusal(number: u8, made: &mut [u8]) -> usize
+    requires { ⌜ 11 ≤ length (now made) ⌝ }
+    ensures { λ r. ⌜ Front (refusedText number) (now (made .exit)) r ⌝ }
+{
+    let low = b'0' + number % 10;
+    if number < 10 {
+        let text = [b'r', b'e', b'f', b'u', b's', b'e', b'd', b' ', low, b'\n'];
+        return bytes::copy(&text, made);
+    }
+    let high = b'0' + number / 10;
+    let text = [
+        b'r',
+        b'e',
+        b'f',
+        b'u',
+        b's',
+        b'e',
+        b'd',
+        b' ',
+        high,
+        low,
+        b'\n',
+    ];
+    bytes::copy(&text, made)
+}

@@ -1,0 +1,69 @@
+"""The commands from outside, on document 01's cases, and the sample label."""
+import os
+import subprocess
+import tempfile
+import unittest
+
+TOOLS = os.path.dirname(os.path.dirname(os.path.abspath(__file__)))
+# document 01, "Length": three equal rows
+RAMP = b"P2 10 3 255\n" + 3 * b"0 0 0 50 100 150 200 250 250 250\n"
+
+
+class Commands(unittest.TestCase):
+    def setUp(self):
+        folder = tempfile.TemporaryDirectory()
+        self.addCleanup(folder.cleanup)
+        self.folder = folder.name
+
+    def file(self, name, data=None):
+        """The file's bytes, or the file with these bytes."""
+        path = os.path.join(self.folder, name)
+        if data is None:
+            with open(path, "rb") as file:
+                return file.read()
+        with open(path, "wb") as file:
+            return file.write(data)
+
+    def run_tool(self, *words, status=0):
+        """What the tool says in the folder."""
+        done = subprocess.run([os.path.join(TOOLS, words[0]), *words[1:]], cwd=self.folder, capture_output=True, text=True, check=False)
+        self.assertEqual(done.returncode, status, done.stderr)
+        return done.stderr if status else done.stdout
+
+    def test_record(self):
+        self.run_tool("record", "make", "--width", "5", "--height", "1", "--length", "3", "--iterations", "1")
+        self.assertEqual(self.file("job.rec"), bytes.fromhex("05000100000000010300010000000100" + 16 * "00"))
+        self.assertIn("5 by 1 pixels", self.run_tool("record", "show", "job.rec"))
+        self.file("answer", b"pixels" + self.file("job.rec"))
+        self.assertIn("length     3", self.run_tool("record", "show", "--last", "answer"))
+        self.assertIn("refused 13", self.run_tool("record", "show", "answer", status=1))
+        self.assertIn("refused 9", self.run_tool("record", "make", "--width", "5", "--height", "1", "--iterations", "23", status=1))
+        self.assertIn("no-such-file", self.run_tool("record", "show", "no-such-file", status=1))
+
+    def test_picture(self):
+        self.file("row.pgm", b"P2 5 1 255\n10 10 40 10 10\n")
+        self.assertEqual(self.run_tool("picture", "to-raw", "row.pgm"), "5 by 1 pixels\n")
+        self.assertEqual(self.file("picture.raw"), bytes([10, 10, 40, 10, 10]))
+        self.run_tool("picture", "from-raw", "picture.raw", "5", "1", "back.png")
+        self.run_tool("picture", "to-raw", "back.png", "back.raw", "--crop", "1", "0", "3", "1")
+        self.assertEqual(self.file("back.raw"), bytes([10, 40, 10]))
+        self.assertIn("fewer than", self.run_tool("picture", "from-raw", "back.raw", "5", "1", "out.png", status=1))
+        self.assertIn("neither PGM", self.run_tool("picture", "to-raw", "picture.raw", status=1))
+
+    def test_restored_row(self):
+        self.file("row.pgm", b"P2 5 1 255\n10 10 40 10 10\n")
+        said = self.run_tool("restore", "row.pgm", "out.pgm", "--length", "3", "--iterations", "2")
+        self.assertEqual(self.file("out.pgm"), b"P5\n5 1\n255\n" + bytes([14, 0, 80, 0, 14]))
+        self.assertIn("direction  Horizontal\n  length     3", said)
+
+    def test_what_restore_refuses(self):
+        self.file("ramp.pgm", RAMP)
+        self.assertIn("no smear was measured", self.run_tool("restore", "ramp.pgm", "out.pgm", status=1))
+        self.file("large.pgm", b"P5 64 65 255\n" + bytes(64 * 65))
+        self.assertIn("64 by 65 are 4160 pixels; the program takes at most 4096", self.run_tool("restore", "large.pgm", "out.pgm", status=1))
+        self.assertFalse(os.path.exists(os.path.join(self.folder, "out.pgm")))
+
+    def test_sample_label(self):
+        said = self.run_tool(os.path.join("..", "samples", "make"), "--check")
+        # as the README says
+        self.assertIn("31 before, 0 after; the restored label says 'CASSETTE 04711'", said)

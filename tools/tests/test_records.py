@@ -1,0 +1,115 @@
+"""Records: bytes written out by hand from document 01, its limits at both sides, and each way to break the layout."""
+import argparse
+import unittest
+
+import records
+
+# document 01's row: 5 by 1, length 3, one iteration, relaxation 1
+ROW = bytes.fromhex("0500 0100 00 00 00 01 0300 0100 00000100" + 16 * "00")
+WHOLE_JOB = bytes.fromhex("4000 4000 00 00 00 01 0000 0300 00000100" + 16 * "00")
+# Vertical, length 7, estimate 6.5, whose bits are 401A 0000 0000 0000
+RESULT = bytes.fromhex("4000 4000 02 00 00 01 0700 0300 00000100 0000000000000000 0000000000001A40")
+# gain 1.5 is q 98,304; angle 1.5 is 3FF8 0000 0000 0000; constant border 7
+UNSHARP = bytes.fromhex("0500 0100 00 02 07 02 0300 0000 00800100 000000000000F83F 0000000000000000")
+BINOMIAL = bytes.fromhex("0500 0100 00 00 00 03" + 24 * "00")
+
+
+def job(width, height, *arguments):
+    parser = argparse.ArgumentParser()
+    records.add_options(parser)
+    return records.write(records.from_options(parser.parse_args(arguments), width, height))
+
+
+class Records(unittest.TestCase):
+    def refuses(self, number, call, *arguments):
+        with self.assertRaises(records.Refused) as caught:
+            call(*arguments)
+        self.assertEqual(caught.exception.number, number, caught.exception)
+
+    def breaks(self, data, place, bytes_there):
+        """The record with other bytes at a place gives 13."""
+        there = bytes.fromhex(bytes_there)
+        self.refuses(13, records.read, data[:place] + there + data[place + len(there) :])
+
+    def test_jobs_from_options(self):
+        self.assertEqual(job(5, 1, "--length", "3", "--iterations", "1"), ROW)
+        self.assertEqual(job(64, 64), WHOLE_JOB)
+        unsharp = ["--filter", "unsharp", "--length", "3", "--angle", "1.5", "--border", "constant", "--border-value", "7"]
+        self.assertEqual(job(5, 1, *unsharp), UNSHARP)
+        self.assertEqual(job(5, 1, "--filter", "binomial"), BINOMIAL)
+
+    def test_bytes_and_fields_determine_each_other(self):
+        for data in [ROW, WHOLE_JOB, RESULT, UNSHARP, BINOMIAL]:
+            self.assertEqual(records.write(records.read(data)), data)
+
+    def test_fields_of_a_result(self):
+        record = records.read(RESULT)
+        self.assertEqual((record.direction, record.length, record.estimate), (2, 7, 6.5))
+        self.assertFalse(record.is_job())
+
+    def test_q(self):
+        self.assertEqual([records.q_of(factor) for factor in [0.1, 2.0**-17, -0.0, 1.0]], [6554, 1, 0, 65536])
+
+    def test_directions_of_angles(self):
+        self.assertEqual([records.from_angle(angle) for angle in [0.39, 0.40, -1.0, 3.0]], [0, 1, 3, 0])
+
+    def test_limits(self):
+        for accepted in [
+            (1024, 1), (1, 1024), (5, 1, "--length", "11"), (5, 1, "--iterations", "22"), (5, 1, "--relaxation", "0"),
+            (5, 1, "--filter", "unsharp", "--length", "3", "--gain", "8"),
+        ]:
+            self.assertEqual(len(job(*accepted)), 32)
+        for number, refused in [
+            (1, (0, 1)), (1, (1, 0)), (2, (1025, 1)), (2, (1, 1025)),
+            (7, (5, 1, "--length", "13")), (7, (5, 1, "--length", "4")), (7, (5, 1, "--length", "1")),
+            (7, (5, 1, "--length", "3", "--angle", "nan")), (7, (5, 1, "--length", "3", "--angle", "inf")),
+            (8, (5, 1, "--iterations", "0")), (9, (5, 1, "--iterations", "23")),
+            (8, (5, 1, "--relaxation", "1.0000001")), (8, (5, 1, "--relaxation", "nan")), (8, (5, 1, "--relaxation", "-0.1")),
+            (8, (5, 1, "--filter", "unsharp", "--length", "3", "--gain", "8.1")),
+            # the first match wins
+            (1, (0, 2000)), (1, (0, 1, "--length", "4")), (7, (5, 1, "--length", "4", "--iterations", "0")),
+            (8, (5, 1, "--iterations", "23", "--relaxation", "2")),
+        ]:
+            self.refuses(number, job, *refused)
+
+    def test_options_that_do_not_fit_together(self):
+        for arguments in [
+            ["--gain", "1"], ["--angle", "1"], ["--length", "0"], ["--border-value", "256", "--border", "constant"],
+            ["--filter", "unsharp"], ["--filter", "binomial", "--iterations", "1"],
+        ]:
+            with self.assertRaises(ValueError):
+                job(5, 1, *arguments)
+
+    def test_lengths_of_a_record(self):
+        for data in [b"", ROW[:31], ROW + b"\0"]:
+            self.refuses(13, records.read, data)
+
+    def test_broken_sizes_and_single_bytes(self):
+        for place, there in [(0, "0000"), (0, "0104"), (2, "0000"), (2, "0104"), (4, "04"), (5, "03"), (6, "01"), (7, "00"), (7, "04")]:
+            self.breaks(ROW, place, there)
+
+    def test_broken_numbers(self):
+        for place, there in [(8, "0100"), (8, "0200"), (8, "0D00"), (10, "0000"), (10, "1700"), (12, "01000100")]:
+            self.breaks(ROW, place, there)
+        for place, there in [(8, "0000"), (10, "0100"), (12, "01000800")]:
+            self.breaks(UNSHARP, place, there)
+
+    def test_broken_doubles(self):
+        infinite, no_number, minus_zero, minus_one = "000000000000F07F", "000000000000F87F", "0000000000000080", "000000000000F0BF"
+        for place, there in [(16, infinite), (16, no_number), (24, infinite), (24, no_number), (24, minus_zero), (24, minus_one)]:
+            self.breaks(ROW, place, there)
+
+    def test_broken_whole_jobs(self):
+        for place, there in [(4, "01"), (16, "01"), (16, "0000000000000080"), (24, "01")]:
+            self.breaks(WHOLE_JOB, place, there)
+
+    def test_broken_binomials(self):
+        for place in [4, 5, 6, *range(8, 32)]:
+            self.breaks(BINOMIAL, place, "01")
+        self.breaks(BINOMIAL, 24, "0000000000000080")
+
+    def test_words(self):
+        self.assertIn("direction  Vertical\n  length     7\n  estimate   6.5 pixels", records.words(records.read(RESULT)))
+        self.assertIn("whole job", records.words(records.read(WHOLE_JOB)))
+        self.assertIn("line unsharp, gain 1.5 (q 98304)", records.words(records.read(UNSHARP)))
+        self.assertIn("direction  Vertical, from the angle 1.5", records.words(records.read(UNSHARP)))

@@ -39,8 +39,7 @@ fn around(centre: f64, steps: u64) -> impl Iterator<Item = f64> {
     (bits.saturating_sub(steps)..=bits.saturating_add(steps)).map(f64::from_bits)
 }
 
-pub fn compare(random: &mut Random, scale: usize) -> Tally {
-    let mut tally = Tally::new("from_angle");
+pub fn compare(random: &mut Random, count: usize, tally: &mut Tally) {
     for special in [0.0, -0.0, f64::NAN, f64::INFINITY, f64::NEG_INFINITY, f64::MIN_POSITIVE, f64::MAX, f64::MIN] {
         tally.check(Angle(special));
     }
@@ -51,9 +50,8 @@ pub fn compare(random: &mut Random, scale: usize) -> Tally {
     }
     // subnormals
     around(f64::from_bits(1000), 1000).for_each(|angle| tally.check(Angle(angle)));
-    for _ in 0..500_000 * scale {
+    for _ in 0..10 * count {
         tally.check(Angle(f64::from_bits(random.bits())));
         tally.check(Angle((random.unit() - 0.5) * 20.0));
     }
-    tally
 }

@@ -69,9 +69,8 @@ impl Case for Binomial {
     }
 }
 
-pub fn compare(random: &mut Random, scale: usize) -> Tally {
-    let mut tally = Tally::new("fixed_binomial_unsharp");
-    for _ in 0..20_000 * scale {
+pub fn compare(random: &mut Random, count: usize, tally: &mut Tally) {
+    for _ in 0..count {
         let (width, height) = size(random);
         let mut source = Picture::random(random, width, height);
         let mut destination = Picture::random(random, width, height);
@@ -90,5 +89,4 @@ pub fn compare(random: &mut Random, scale: usize) -> Tally {
         let (source, destination) = (Picture::random(random, width, height), Picture::random(random, width, height));
         tally.check(Binomial { source, destination, scratch: width * height });
     }
-    tally
 }

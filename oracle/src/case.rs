@@ -1,6 +1,6 @@
 //! One input of one call: it is checked on both sides and, where they differ, made smaller for as long as they still do.
 
-use std::fmt::Debug;
+use std::fmt::{self, Debug, Display};
 
 /// What a comparison found.
 pub enum Verdict {
@@ -20,15 +20,21 @@ pub trait Case: Clone + Debug {
 
 /// How many inputs of a call both answered alike, were refused as they must be, and were left out.
 pub struct Tally {
-    pub name: &'static str,
-    pub alike: usize,
-    pub refused: usize,
-    pub left_out: usize,
+    name: &'static str,
+    alike: usize,
+    refused: usize,
+    left_out: usize,
 }
 
 impl Tally {
     pub fn new(name: &'static str) -> Self {
         Self { name, alike: 0, refused: 0, left_out: 0 }
+    }
+
+    pub fn add(&mut self, other: &Self) {
+        self.alike += other.alike;
+        self.refused += other.refused;
+        self.left_out += other.left_out;
     }
 
     /// Checks a case; at a difference prints the smallest one found and ends the run.
@@ -43,6 +49,12 @@ impl Tally {
                 std::process::exit(1);
             }
         }
+    }
+}
+
+impl Display for Tally {
+    fn fmt(&self, f: &mut fmt::Formatter<'_>) -> fmt::Result {
+        write!(f, "{:<28} {:>10} {:>10} {:>10}", self.name, self.alike, self.refused, self.left_out)
     }
 }
 

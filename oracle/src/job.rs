@@ -2,6 +2,7 @@
 
 use crate::angle::number;
 use crate::case::{Case, Tally, Verdict};
+use crate::direction::is_tie;
 use crate::ffi::{smear_restore, Swing};
 use crate::picture::{size, Picture};
 use crate::random::Random;
@@ -34,6 +35,31 @@ fn odd(estimate: f64) -> usize {
     (estimate.ceil() as usize | 1).max(3)
 }
 
+/// What the whole job measures.
+pub struct Smear {
+    pub direction: RasterDirection4,
+    pub theta_radians: f64,
+    pub blur_length: usize,
+    pub estimate: f64,
+}
+
+/// The smear of an accepted picture by the Rust's calls, with document 01's rounding of the length and its refusals 11 and 12.
+pub fn measure(source: &Picture, thresholds: &LineLengthConfig) -> Result<Smear, u8> {
+    let direction = estimate_line_direction(source.view()).raster_direction;
+    let theta_radians = match direction {
+        RasterDirection4::Horizontal => 0.0,
+        RasterDirection4::DownRight => 0.75,
+        RasterDirection4::Vertical => 1.5,
+        RasterDirection4::DownLeft => 2.25,
+    };
+    let estimate = estimate_line_length_with(source.view(), theta_radians, thresholds).ok_or(11u8)?;
+    let blur_length = odd(estimate);
+    if blur_length > 2 * source.width.max(source.height) + 1 {
+        return Err(12);
+    }
+    Ok(Smear { direction, theta_radians, blur_length, estimate })
+}
+
 impl Job {
     fn theirs(&self) -> Answer {
         let (s, d) = (&self.source, &self.destination);
@@ -57,19 +83,8 @@ impl Job {
         if self.scratch < 3 * pixels || self.swings < pixels {
             return Err(10);
         }
-        let direction = estimate_line_direction(s.view()).raster_direction;
-        let theta_radians = match direction {
-            RasterDirection4::Horizontal => 0.0,
-            RasterDirection4::DownRight => 0.75,
-            RasterDirection4::Vertical => 1.5,
-            RasterDirection4::DownLeft => 2.25,
-        };
         let thresholds = LineLengthConfig { minimum_transitions: self.minimum_transitions, minimum_amplitude: self.minimum_amplitude };
-        let estimate = estimate_line_length_with(s.view(), theta_radians, &thresholds).ok_or(11u8)?;
-        let blur_length = odd(estimate);
-        if blur_length > 2 * s.width.max(s.height) + 1 {
-            return Err(12);
-        }
+        let Smear { direction, theta_radians, blur_length, estimate } = measure(s, &thresholds)?;
         let border = match self.border {
             0 => LineBorderMode::Replicate,
             1 => LineBorderMode::Reflect,
@@ -81,19 +96,11 @@ impl Job {
         van_cittert_line_into(s.view(), view, &config, &mut Default::default()).expect("an accepted call");
         Ok((number(direction), blur_length, estimate, bytes))
     }
-
-    /// Whether the picture's direction is a tie, which the Rust decides by its own rounding.
-    fn is_tie(&self) -> bool {
-        self.source.refusal() == 0 && {
-            let (a, c, e) = crate::direction::sums(&self.source);
-            2 * c.abs() == (a - e).abs() && a != e
-        }
-    }
 }
 
 impl Case for Job {
     fn check(&self) -> Verdict {
-        if self.is_tie() {
+        if self.source.refusal() == 0 && is_tie(&self.source) {
             return Verdict::LeftOut;
         }
         let (s, d) = (&self.source, &self.destination);
@@ -163,9 +170,8 @@ fn case(random: &mut Random, width: usize, height: usize) -> Job {
     out
 }
 
-pub fn compare(random: &mut Random, scale: usize) -> Tally {
-    let mut tally = Tally::new("restore");
-    for _ in 0..40_000 * scale {
+pub fn compare(random: &mut Random, count: usize, tally: &mut Tally) {
+    for _ in 0..count {
         let (width, height) = size(random);
         let (width, height) = if random.below(4) == 0 { (width, height) } else { (3 + width, 3 + height) };
         tally.check(case(random, width, height));
@@ -174,5 +180,4 @@ pub fn compare(random: &mut Random, scale: usize) -> Tally {
         let large = case(random, 1024, 1024);
         tally.check(Job { minimum_transitions: 8, minimum_amplitude: 24, iterations: 3, relaxation: 1.0, ..large });
     }
-    tally
 }

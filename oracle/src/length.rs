@@ -78,9 +78,8 @@ fn case(random: &mut Random, width: usize, height: usize) -> Length {
     }
 }
 
-pub fn compare(random: &mut Random, scale: usize) -> Tally {
-    let mut tally = Tally::new("estimate_line_length");
-    for _ in 0..40_000 * scale {
+pub fn compare(random: &mut Random, count: usize, tally: &mut Tally) {
+    for _ in 0..count {
         let (width, height) = size(random);
         tally.check(case(random, width, height));
     }
@@ -90,5 +89,4 @@ pub fn compare(random: &mut Random, scale: usize) -> Tally {
             tally.check(Length { angle, minimum_transitions: 8, minimum_amplitude: 24, swings: 1024 * 1024, ..large });
         }
     }
-    tally
 }

@@ -1,6 +1,5 @@
 //! Compares the proved library with the Rust original: the same inputs, from a seeded generator, through the C interface.
-//! Usage: oracle [--seed N] [--count N]. Ends with status 1 at the first difference, which it prints as small as it can make it.
-//! oracle --vectors PATH instead writes the Rust's answers to chosen inputs.
+//! Ends with status 1 at the first difference, which it prints as small as it can make it.
 
 mod angle;
 mod binomial;
@@ -14,50 +13,56 @@ mod random;
 mod restoration;
 mod vectors;
 
+use case::Tally;
 use random::Random;
 use restoration::Call;
 
-fn number(value: Option<String>, name: &str) -> u64 {
-    match value.map(|text| text.parse()) {
-        Some(Ok(n)) => n,
-        _ => {
-            eprintln!("oracle: {name} wants a number");
-            std::process::exit(2);
-        }
-    }
+const USAGE: &str = "usage: oracle [--seed N] [--count N] [--only CALL]
+  --seed N      another run of the generator (default 1)
+  --count N     inputs of each call, beside the fixed ones (default 30000)
+  --only CALL   only the calls whose names begin so
+  --vectors F   compare nothing: write the Rust's answers to chosen inputs to F";
+
+type Compare = fn(&mut Random, usize, &mut Tally);
+
+const CALLS: [(&str, Compare); 8] = [
+    ("from_angle", angle::compare),
+    ("estimate_line_direction", direction::compare),
+    ("estimate_line_length", length::compare),
+    ("fixed_binomial_unsharp", binomial::compare),
+    ("van_cittert_line", |random, count, tally| restoration::compare(random, count, tally, Call::Restore)),
+    ("van_cittert_estimate", |random, count, tally| restoration::compare(random, count, tally, Call::Estimate)),
+    ("directional_unsharp_line", |random, count, tally| restoration::compare(random, count, tally, Call::Unsharp)),
+    ("restore", job::compare),
+];
+
+fn usage() -> ! {
+    eprintln!("{USAGE}");
+    std::process::exit(2);
 }
 
 fn main() {
-    let (mut seed, mut count) = (1, 1);
+    let (mut seed, mut count, mut only) = (1, 30_000, String::new());
     let mut args = std::env::args().skip(1);
     while let Some(arg) = args.next() {
+        let value = args.next().unwrap_or_else(|| usage());
         match arg.as_str() {
-            "--seed" => seed = number(args.next(), "--seed"),
-            "--count" => count = number(args.next(), "--count"),
-            "--vectors" => {
-                let path = args.next().unwrap_or_else(|| "rust.vec".into());
-                return vectors::write(&path);
-            }
-            _ => {
-                eprintln!("usage: oracle [--seed N] [--count N]    (N times the gate's number of inputs)");
-                std::process::exit(2);
-            }
+            "--seed" => seed = value.parse().unwrap_or_else(|_| usage()),
+            "--count" => count = value.parse().unwrap_or_else(|_| usage()),
+            "--only" => only = value,
+            "--vectors" => return vectors::write(&value),
+            _ => usage(),
         }
     }
-    let mut random = Random::new(seed);
-    let scale = count as usize;
+    let mut all = Tally::new("all but from_angle");
     println!("{:<28} {:>10} {:>10} {:>10}", "call", "alike", "refused", "left out");
-    let tallies = [
-        angle::compare(&mut random, scale),
-        direction::compare(&mut random, scale),
-        length::compare(&mut random, scale),
-        binomial::compare(&mut random, scale),
-        restoration::compare(&mut random, scale, Call::Restore),
-        restoration::compare(&mut random, scale, Call::Estimate),
-        restoration::compare(&mut random, scale, Call::Unsharp),
-        job::compare(&mut random, scale),
-    ];
-    for tally in tallies {
-        println!("{:<28} {:>10} {:>10} {:>10}", tally.name, tally.alike, tally.refused, tally.left_out);
+    for (name, compare) in CALLS.into_iter().filter(|(name, _)| name.starts_with(&only)) {
+        let mut tally = Tally::new(name);
+        compare(&mut Random::new(seed), count, &mut tally);
+        println!("{tally}");
+        if name != "from_angle" {
+            all.add(&tally);
+        }
     }
+    println!("{all}");
 }

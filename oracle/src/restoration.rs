@@ -273,18 +273,13 @@ fn case(random: &mut Random, call: Call, width: usize, height: usize) -> Filter 
     out
 }
 
-pub fn compare(random: &mut Random, scale: usize, call: Call) -> Tally {
-    let mut tally = Tally::new(match call {
-        Call::Restore => "van_cittert_line",
-        Call::Estimate => "van_cittert_estimate",
-        Call::Unsharp => "directional_unsharp_line",
-    });
-    for _ in 0..20_000 * scale {
+pub fn compare(random: &mut Random, count: usize, tally: &mut Tally, call: Call) {
+    for _ in 0..count {
         let (width, height) = size(random);
         tally.check(case(random, call, width, height));
     }
     if call == Call::Estimate {
-        return tally;
+        return;
     }
     // large ones, with as many iterations as there may be, in each direction
     for angle in [0.0, 0.75, 1.5, 2.25] {
@@ -292,5 +287,4 @@ pub fn compare(random: &mut Random, scale: usize, call: Call) -> Tally {
         let large = case(random, call, 1024, 1024);
         tally.check(Filter { angle, length: 31, iterations: 22, factor: 1.0, border, ..large });
     }
-    tally
 }

@@ -56,4 +56,9 @@ extern "C" {
         scratch: *mut i32, scratch_len: usize, swings: *mut Swing, swings_len: usize,
         direction: *mut u8, blur_length: *mut usize, estimate: *mut f64,
     ) -> u8;
+
+    pub fn smear_run(
+        job: *const u8, job_len: usize, picture: *const u8, picture_len: usize,
+        out: *mut u8, out_len: usize, written: *mut usize,
+    ) -> u8;
 }

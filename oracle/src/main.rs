@@ -9,7 +9,9 @@ mod ffi;
 mod job;
 mod length;
 mod picture;
+mod program;
 mod random;
+mod reader;
 mod restoration;
 mod vectors;
 
@@ -25,7 +27,7 @@ const USAGE: &str = "usage: oracle [--seed N] [--count N] [--only CALL]
 
 type Compare = fn(&mut Random, usize, &mut Tally);
 
-const CALLS: [(&str, Compare); 8] = [
+const CALLS: [(&str, Compare); 14] = [
     ("from_angle", angle::compare),
     ("estimate_line_direction", direction::compare),
     ("estimate_line_length", length::compare),
@@ -34,6 +36,12 @@ const CALLS: [(&str, Compare); 8] = [
     ("van_cittert_estimate", |random, count, tally| restoration::compare(random, count, tally, Call::Estimate)),
     ("directional_unsharp_line", |random, count, tally| restoration::compare(random, count, tally, Call::Unsharp)),
     ("restore", job::compare),
+    ("smear_run: jobs", program::jobs),
+    ("smear_run: prefixes", program::prefixes),
+    ("smear_run: changed bytes", program::changes),
+    ("smear_run: random bytes", program::noise),
+    ("smear_run: short pictures", program::pictures),
+    ("smear_run: room", program::room),
 ];
 
 fn usage() -> ! {

@@ -1,5 +1,6 @@
 //! Compares the proved library with the Rust original: the same inputs, from a seeded generator, through the C interface.
 //! Ends with status 1 at the first difference, which it prints as small as it can make it.
+//! oracle --vectors PATH instead writes the Rust's answers to chosen inputs.
 
 mod angle;
 mod binomial;
@@ -20,10 +21,10 @@ use random::Random;
 use restoration::Call;
 
 const USAGE: &str = "usage: oracle [--seed N] [--count N] [--only CALL]
-  --seed N      another run of the generator (default 1)
-  --count N     inputs of each call, beside the fixed ones (default 30000)
-  --only CALL   only the calls whose names begin so
-  --vectors F   compare nothing: write the Rust's answers to chosen inputs to F";
+  --seed N        another run of the generator (default 1)
+  --count N       inputs of each call, beside the fixed ones (default 30000)
+  --only CALL     only the calls whose names begin so
+  --vectors PATH  instead writes the Rust's answers to chosen inputs";
 
 type Compare = fn(&mut Random, usize, &mut Tally);
 
@@ -61,6 +62,10 @@ fn main() {
             "--vectors" => return vectors::write(&value),
             _ => usage(),
         }
+    }
+    // a name that is mistyped would compare nothing
+    if !CALLS.iter().any(|(name, _)| name.starts_with(&only)) {
+        usage();
     }
     let mut all = Tally::new("all but from_angle");
     println!("{:<28} {:>10} {:>10} {:>10}", "call", "alike", "refused", "left out");

@@ -1,0 +1,114 @@
+//! The Rust's errors, with a case for each refusal that it has not.
+
+use std::error::Error;
+use std::fmt;
+
+/// A layout that is refused.
+#[derive(Clone, Copy, Debug, PartialEq, Eq)]
+pub enum LumaError {
+    /// Refusal 1: width or height is zero.
+    EmptyDimensions,
+    /// Refusal 2: width or height exceeds 1,024.
+    DimensionsTooLarge,
+    /// Refusal 3: the stride is smaller than the width.
+    StrideTooSmall,
+    /// Refusal 4: the slice is shorter than the layout requires.
+    BufferTooSmall,
+}
+
+/// A picture that is refused.
+#[derive(Clone, Copy, Debug, PartialEq, Eq)]
+pub enum ImageError {
+    /// Its layout is.
+    Layout(LumaError),
+}
+
+/// A call that is refused. It has changed nothing but its workspace.
+#[derive(Clone, Copy, Debug, PartialEq, Eq)]
+pub enum ImgProcError {
+    /// Refusals 1 to 5: a picture's layout.
+    Image(ImageError),
+    /// Refusal 6: source and destination differ in size.
+    DimensionMismatch,
+    /// Refusals 7 and 8: a setting is out of range or not finite.
+    InvalidConfiguration,
+    /// Refusal 9: more than 22 iterations.
+    TooManyIterations,
+    /// Refusal 10: the destination for estimates is shorter than width times height.
+    DestinationTooSmall,
+    /// Refusal 11: the picture does not show how long its smear is.
+    NoLength,
+    /// Refusal 12: the smear is longer than twice the larger side and one.
+    LengthTooLarge,
+}
+
+/// What a call answers.
+pub type ImgProcResult<T> = Result<T, ImgProcError>;
+
+impl fmt::Display for LumaError {
+    fn fmt(&self, f: &mut fmt::Formatter<'_>) -> fmt::Result {
+        f.write_str(match self {
+            Self::EmptyDimensions => "image dimensions must be non-zero",
+            Self::DimensionsTooLarge => "image dimensions must be at most 1,024",
+            Self::StrideTooSmall => "row stride is smaller than image width",
+            Self::BufferTooSmall => "buffer is too small for dimensions and stride",
+        })
+    }
+}
+
+impl fmt::Display for ImageError {
+    fn fmt(&self, f: &mut fmt::Formatter<'_>) -> fmt::Result {
+        let Self::Layout(error) = self;
+        error.fmt(f)
+    }
+}
+
+impl fmt::Display for ImgProcError {
+    fn fmt(&self, f: &mut fmt::Formatter<'_>) -> fmt::Result {
+        f.write_str(match self {
+            Self::Image(error) => return error.fmt(f),
+            Self::DimensionMismatch => "source and destination dimensions do not match",
+            Self::InvalidConfiguration => "image-processing configuration is invalid",
+            Self::TooManyIterations => "more than 22 iterations",
+            Self::DestinationTooSmall => "destination is too small for the estimates",
+            Self::NoLength => "the picture does not show how long its smear is",
+            Self::LengthTooLarge => "the smear is too long for the picture",
+        })
+    }
+}
+
+impl Error for LumaError {}
+impl Error for ImageError {}
+impl Error for ImgProcError {}
+
+impl From<LumaError> for ImageError {
+    fn from(value: LumaError) -> Self {
+        Self::Layout(value)
+    }
+}
+
+impl From<ImageError> for ImgProcError {
+    fn from(value: ImageError) -> Self {
+        Self::Image(value)
+    }
+}
+
+impl From<LumaError> for ImgProcError {
+    fn from(value: LumaError) -> Self {
+        Self::Image(value.into())
+    }
+}
+
+/// The answer that goes with a refusal's number, 0 being none.
+pub(crate) fn answer(refusal: u8) -> ImgProcResult<()> {
+    Err(match refusal {
+        0 => return Ok(()),
+        6 => ImgProcError::DimensionMismatch,
+        7 | 8 => ImgProcError::InvalidConfiguration,
+        9 => ImgProcError::TooManyIterations,
+        10 => ImgProcError::DestinationTooSmall,
+        11 => ImgProcError::NoLength,
+        12 => ImgProcError::LengthTooLarge,
+        _ => unreachable!("a view has an accepted layout: refusal {refusal}"),
+    })
+}

@@ -1,0 +1,182 @@
+//! crates/smear_c/include/smear.h, with slices in place of pointers. All `unsafe` of the crate is here: each call passes a slice as its
+//! pointer and length and writes to nothing else, which is what the header asks.
+
+use crate::view::{Gray8View, Gray8ViewMut};
+
+/// `smear_swing`.
+#[repr(C)]
+#[derive(Clone, Copy, Debug, Default)]
+pub struct Swing {
+    width: f64,
+    swing: i32,
+}
+
+/// A line filter's settings, as the header orders them.
+#[derive(Clone, Copy)]
+pub struct Filter {
+    pub angle: f64,
+    pub blur_length: usize,
+    pub iterations: usize,
+    pub factor: f64,
+    pub border: (u8, u8),
+}
+
+mod raw {
+    use super::Swing;
+
+    extern "C" {
+        pub fn smear_direction_from_angle(angle: f64) -> u8;
+
+        pub fn smear_estimate_line_direction(
+            src: *const u8, src_len: usize, width: usize, height: usize, stride: usize,
+            direction: *mut u8, a: *mut i64, c: *mut i64, e: *mut i64,
+        ) -> u8;
+
+        pub fn smear_estimate_line_length(
+            src: *const u8, src_len: usize, width: usize, height: usize, stride: usize,
+            angle: f64, minimum_transitions: usize, minimum_amplitude: u8,
+            swings: *mut Swing, swings_len: usize, length: *mut f64,
+        ) -> u8;
+
+        pub fn smear_fixed_binomial_unsharp(
+            src: *const u8, src_len: usize, width: usize, height: usize, stride: usize,
+            dst: *mut u8, dst_len: usize, dst_width: usize, dst_height: usize, dst_stride: usize,
+            scratch: *mut u16, scratch_len: usize,
+        ) -> u8;
+
+        pub fn smear_van_cittert_line(
+            src: *const u8, src_len: usize, width: usize, height: usize, stride: usize,
+            dst: *mut u8, dst_len: usize, dst_width: usize, dst_height: usize, dst_stride: usize,
+            angle: f64, blur_length: usize, iterations: usize, relaxation: f64, border: u8, border_value: u8,
+            scratch: *mut i32, scratch_len: usize, direction: *mut u8,
+        ) -> u8;
+
+        pub fn smear_van_cittert_estimate(
+            src: *const u8, src_len: usize, width: usize, height: usize, stride: usize,
+            dst: *mut i32, dst_len: usize,
+            angle: f64, blur_length: usize, iterations: usize, relaxation: f64, border: u8, border_value: u8,
+            scratch: *mut i32, scratch_len: usize, direction: *mut u8,
+        ) -> u8;
+
+        pub fn smear_directional_unsharp_line(
+            src: *const u8, src_len: usize, width: usize, height: usize, stride: usize,
+            dst: *mut u8, dst_len: usize, dst_width: usize, dst_height: usize, dst_stride: usize,
+            angle: f64, blur_length: usize, gain: f64, border: u8, border_value: u8,
+            scratch: *mut i32, scratch_len: usize, direction: *mut u8,
+        ) -> u8;
+
+        pub fn smear_restore(
+            src: *const u8, src_len: usize, width: usize, height: usize, stride: usize,
+            dst: *mut u8, dst_len: usize, dst_width: usize, dst_height: usize, dst_stride: usize,
+            minimum_transitions: usize, minimum_amplitude: u8, iterations: usize, relaxation: f64, border: u8, border_value: u8,
+            scratch: *mut i32, scratch_len: usize, swings: *mut Swing, swings_len: usize,
+            direction: *mut u8, blur_length: *mut usize, estimate: *mut f64,
+        ) -> u8;
+    }
+}
+
+pub fn direction_from_angle(angle: f64) -> u8 {
+    unsafe { raw::smear_direction_from_angle(angle) }
+}
+
+/// The refusal, the direction, and the sums A, C and E.
+pub fn estimate_line_direction(src: Gray8View<'_>) -> (u8, u8, [i64; 3]) {
+    let (mut direction, mut a, mut c, mut e) = (0, 0, 0, 0);
+    let refusal = unsafe {
+        raw::smear_estimate_line_direction(
+            src.bytes().as_ptr(), src.bytes().len(), src.width(), src.height(), src.stride(),
+            &mut direction, &mut a, &mut c, &mut e,
+        )
+    };
+    (refusal, direction, [a, c, e])
+}
+
+/// The refusal, and the length: 0.0 for none.
+pub fn estimate_line_length(src: Gray8View<'_>, angle: f64, transitions: usize, amplitude: u8, swings: &mut [Swing]) -> (u8, f64) {
+    let mut length = 0.0;
+    let refusal = unsafe {
+        raw::smear_estimate_line_length(
+            src.bytes().as_ptr(), src.bytes().len(), src.width(), src.height(), src.stride(),
+            angle, transitions, amplitude, swings.as_mut_ptr(), swings.len(), &mut length,
+        )
+    };
+    (refusal, length)
+}
+
+pub fn fixed_binomial_unsharp(src: Gray8View<'_>, mut dst: Gray8ViewMut<'_>, scratch: &mut [u16]) -> u8 {
+    let (width, height, stride) = (dst.width(), dst.height(), dst.stride());
+    unsafe {
+        raw::smear_fixed_binomial_unsharp(
+            src.bytes().as_ptr(), src.bytes().len(), src.width(), src.height(), src.stride(),
+            dst.bytes().as_mut_ptr(), dst.bytes().len(), width, height, stride,
+            scratch.as_mut_ptr(), scratch.len(),
+        )
+    }
+}
+
+/// The refusal and the direction.
+pub fn van_cittert_line(src: Gray8View<'_>, mut dst: Gray8ViewMut<'_>, f: Filter, scratch: &mut [i32]) -> (u8, u8) {
+    let (width, height, stride) = (dst.width(), dst.height(), dst.stride());
+    let mut direction = 0;
+    let refusal = unsafe {
+        raw::smear_van_cittert_line(
+            src.bytes().as_ptr(), src.bytes().len(), src.width(), src.height(), src.stride(),
+            dst.bytes().as_mut_ptr(), dst.bytes().len(), width, height, stride,
+            f.angle, f.blur_length, f.iterations, f.factor, f.border.0, f.border.1,
+            scratch.as_mut_ptr(), scratch.len(), &mut direction,
+        )
+    };
+    (refusal, direction)
+}
+
+/// The refusal and the direction.
+pub fn van_cittert_estimate(src: Gray8View<'_>, dst: &mut [i32], f: Filter, scratch: &mut [i32]) -> (u8, u8) {
+    let mut direction = 0;
+    let refusal = unsafe {
+        raw::smear_van_cittert_estimate(
+            src.bytes().as_ptr(), src.bytes().len(), src.width(), src.height(), src.stride(),
+            dst.as_mut_ptr(), dst.len(),
+            f.angle, f.blur_length, f.iterations, f.factor, f.border.0, f.border.1,
+            scratch.as_mut_ptr(), scratch.len(), &mut direction,
+        )
+    };
+    (refusal, direction)
+}
+
+/// The refusal and the direction. The filter's iterations are not read.
+pub fn directional_unsharp_line(src: Gray8View<'_>, mut dst: Gray8ViewMut<'_>, f: Filter, scratch: &mut [i32]) -> (u8, u8) {
+    let (width, height, stride) = (dst.width(), dst.height(), dst.stride());
+    let mut direction = 0;
+    let refusal = unsafe {
+        raw::smear_directional_unsharp_line(
+            src.bytes().as_ptr(), src.bytes().len(), src.width(), src.height(), src.stride(),
+            dst.bytes().as_mut_ptr(), dst.bytes().len(), width, height, stride,
+            f.angle, f.blur_length, f.factor, f.border.0, f.border.1,
+            scratch.as_mut_ptr(), scratch.len(), &mut direction,
+        )
+    };
+    (refusal, direction)
+}
+
+/// The refusal, and the direction, the blur length and the estimate. The filter's angle and blur length are not read.
+pub fn restore(
+    src: Gray8View<'_>,
+    mut dst: Gray8ViewMut<'_>,
+    (transitions, amplitude): (usize, u8),
+    f: Filter,
+    scratch: &mut [i32],
+    swings: &mut [Swing],
+) -> (u8, (u8, usize, f64)) {
+    let (width, height, stride) = (dst.width(), dst.height(), dst.stride());
+    let (mut direction, mut blur_length, mut estimate) = (0, 0, 0.0);
+    let refusal = unsafe {
+        raw::smear_restore(
+            src.bytes().as_ptr(), src.bytes().len(), src.width(), src.height(), src.stride(),
+            dst.bytes().as_mut_ptr(), dst.bytes().len(), width, height, stride,
+            transitions, amplitude, f.iterations, f.factor, f.border.0, f.border.1,
+            scratch.as_mut_ptr(), scratch.len(), swings.as_mut_ptr(), swings.len(),
+            &mut direction, &mut blur_length, &mut estimate,
+        )
+    };
+    (refusal, (direction, blur_length, estimate))
+}

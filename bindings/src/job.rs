@@ -1,0 +1,58 @@
+//! The whole job: direction, length, restoration.
+
+use crate::blur::RasterDirection4;
+use crate::deblur::{DeblurWorkspace, LineBorderMode};
+use crate::error::{answer, ImgProcResult};
+use crate::ffi::{self, Filter, Swing};
+use crate::view::{Gray8View, Gray8ViewMut};
+
+/// Settings of the whole job.
+#[derive(Clone, Copy, Debug, PartialEq)]
+pub struct JobConfig {
+    /// How many swings there must be.
+    pub minimum_transitions: usize,
+    /// By how much a line must change at least for a swing.
+    pub minimum_amplitude: u8,
+    /// 1 to 22.
+    pub iterations: usize,
+    /// 0 to 1, in steps of 1/65,536.
+    pub relaxation: f64,
+    /// What stands beyond the ends of a line.
+    pub border: LineBorderMode,
+}
+
+impl Default for JobConfig {
+    fn default() -> Self {
+        Self { minimum_transitions: 8, minimum_amplitude: 24, iterations: 3, relaxation: 1.0, border: LineBorderMode::Replicate }
+    }
+}
+
+/// What was measured and taken out.
+#[derive(Clone, Copy, Debug, PartialEq)]
+pub struct JobResult {
+    /// The smear's direction.
+    pub direction: RasterDirection4,
+    /// The odd length in pixels that the estimate was raised to.
+    pub blur_length: usize,
+    /// The smear's length as it was measured.
+    pub estimate: f64,
+}
+
+/// Room that the whole job works in, kept from call to call.
+#[derive(Debug, Default)]
+pub struct JobWorkspace {
+    deblur: DeblurWorkspace,
+    swings: Vec<Swing>,
+}
+
+/// Measures the smear of a picture and takes it out.
+pub fn restore(src: Gray8View<'_>, dst: Gray8ViewMut<'_>, config: &JobConfig, workspace: &mut JobWorkspace) -> ImgProcResult<JobResult> {
+    workspace.swings.resize(src.width() * src.height(), Swing::default());
+    let thresholds = (config.minimum_transitions, config.minimum_amplitude);
+    let filter =
+        Filter { angle: 0.0, blur_length: 0, iterations: config.iterations, factor: config.relaxation, border: config.border.number() };
+    let (refusal, (direction, blur_length, estimate)) =
+        ffi::restore(src, dst, thresholds, filter, workspace.deblur.scratch(src), &mut workspace.swings);
+    answer(refusal)?;
+    Ok(JobResult { direction: RasterDirection4::from_number(direction), blur_length, estimate })
+}

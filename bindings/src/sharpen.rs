@@ -1,0 +1,17 @@
+//! The binomial unsharp.
+
+use crate::error::{answer, ImgProcResult};
+use crate::ffi;
+use crate::view::{Gray8View, Gray8ViewMut};
+
+/// Room that the binomial unsharp works in, kept from call to call.
+#[derive(Debug, Default)]
+pub struct SharpenWorkspace {
+    scratch: Vec<u16>,
+}
+
+/// Twice the picture less its blur by 1 4 6 4 1 both ways, cut to 0..255.
+pub fn fixed_binomial_unsharp_into(src: Gray8View<'_>, dst: Gray8ViewMut<'_>, workspace: &mut SharpenWorkspace) -> ImgProcResult<()> {
+    workspace.scratch.resize(src.width() * src.height(), 0);
+    answer(ffi::fixed_binomial_unsharp(src, dst, &mut workspace.scratch))
+}

@@ -1,0 +1,167 @@
+//! Document 01's cases, through the crate.
+
+use smear::blur::{estimate_line_direction, estimate_line_length, estimate_line_length_with, LineLengthConfig, RasterDirection4};
+use smear::deblur::{
+    directional_unsharp_line_into, van_cittert_estimate_into, van_cittert_line_into, DeblurWorkspace, DirectionalUnsharpConfig,
+    LineBorderMode, VanCittertConfig,
+};
+use smear::job::{restore, JobConfig, JobWorkspace};
+use smear::sharpen::{fixed_binomial_unsharp_into, SharpenWorkspace};
+use smear::{Gray8View, Gray8ViewMut, ImgProcError};
+
+const ROW: [u8; 5] = [10, 10, 40, 10, 10];
+
+/// Three equal rows that rise by 50 from 0 to 250.
+fn ramp() -> Vec<u8> {
+    [0, 0, 0, 50, 100, 150, 200, 250, 250, 250].repeat(3)
+}
+
+fn restored(config: &VanCittertConfig) -> [u8; 5] {
+    let mut out = [0; 5];
+    let src = Gray8View::new(&ROW, 5, 1, 5).unwrap();
+    let dst = Gray8ViewMut::new(&mut out, 5, 1, 5).unwrap();
+    van_cittert_line_into(src, dst, config, &mut DeblurWorkspace::default()).unwrap();
+    out
+}
+
+#[test]
+fn direction_from_an_angle() {
+    let cases = [
+        (0.39, RasterDirection4::Horizontal),
+        (0.40, RasterDirection4::DownRight),
+        (-1.0, RasterDirection4::DownLeft),
+        (3.0, RasterDirection4::Horizontal),
+        (f64::NAN, RasterDirection4::Horizontal),
+    ];
+    for (angle, direction) in cases {
+        assert_eq!(RasterDirection4::from_angle(angle), direction, "{angle}");
+    }
+    let steps = [0.0, 0.75, 1.5, 2.25].map(|angle| RasterDirection4::from_angle(angle).step());
+    assert_eq!(steps, [(1, 0), (1, 1), (0, 1), (-1, 1)]);
+}
+
+#[test]
+fn direction_from_a_picture() {
+    let bytes = ramp();
+    let estimate = estimate_line_direction(Gray8View::new(&bytes, 10, 3, 10).unwrap());
+    // rows that are alike have gx alone: 4 times the difference over two columns, 50, 100, 100, 100, 100, 50 of them not 0
+    assert_eq!(estimate.raster_direction, RasterDirection4::Vertical);
+    assert_eq!((estimate.a, estimate.c, estimate.e), (16 * (2 * 50 * 50 + 4 * 100 * 100), 0, 0));
+}
+
+#[test]
+fn length_of_a_ramp() {
+    let bytes = ramp();
+    let src = Gray8View::new(&bytes, 10, 3, 10).unwrap();
+    let with = |minimum_transitions| {
+        estimate_line_length_with(src, 0.0, &LineLengthConfig { minimum_transitions, ..LineLengthConfig::default() })
+    };
+    assert_eq!(with(3), Some(5.0));
+    assert_eq!(with(4), None);
+    assert_eq!(with(0), None);
+    assert_eq!(estimate_line_length(src, 0.0), None);
+}
+
+#[test]
+fn restoration_of_a_row() {
+    let config = VanCittertConfig { iterations: 1, ..VanCittertConfig::default() };
+    assert_eq!(restored(&config), [10, 0, 60, 0, 10]);
+    let config = VanCittertConfig { iterations: 2, ..config };
+    assert_eq!(restored(&config), [14, 0, 80, 0, 14]);
+    assert_eq!(restored(&VanCittertConfig { relaxation: -0.0, ..config }), ROW);
+}
+
+#[test]
+fn borders() {
+    let at = |border| {
+        let mut out = [0; 4];
+        let config = VanCittertConfig { iterations: 1, border, ..VanCittertConfig::default() };
+        let src = Gray8View::new(&[10, 40, 10, 10], 4, 1, 4).unwrap();
+        van_cittert_estimate_into(src, &mut out, &config, &mut DeblurWorkspace::default()).unwrap();
+        out
+    };
+    // the means are m 20 20 n, and each estimate is twice the pixel less its mean
+    assert_eq!(at(LineBorderMode::Replicate), [20 - (10 + 10 + 40) / 3, 60, 0, 20 - (10 + 10 + 10) / 3]);
+    assert_eq!(at(LineBorderMode::Reflect), [20 - (40 + 10 + 40) / 3, 60, 0, 20 - (10 + 10 + 10) / 3]);
+    assert_eq!(at(LineBorderMode::Constant(100)), [20 - (100 + 10 + 40) / 3, 60, 0, 20 - (10 + 10 + 100) / 3]);
+}
+
+#[test]
+fn estimates_are_not_cut_and_the_rest_stays() {
+    let mut out = [7; 6];
+    let config = VanCittertConfig { iterations: 2, ..VanCittertConfig::default() };
+    let answer =
+        van_cittert_estimate_into(Gray8View::new(&ROW, 5, 1, 5).unwrap(), &mut out, &config, &mut DeblurWorkspace::default()).unwrap();
+    assert_eq!(out, [14, -13, 80, -13, 14, 7]);
+    assert_eq!(answer.raster_direction, RasterDirection4::Horizontal);
+}
+
+#[test]
+fn line_unsharp_and_binomial_of_a_row() {
+    let src = Gray8View::new(&ROW, 5, 1, 5).unwrap();
+    let mut out = [0; 5];
+    let dst = Gray8ViewMut::new(&mut out, 5, 1, 5).unwrap();
+    directional_unsharp_line_into(src, dst, &DirectionalUnsharpConfig::default(), &mut DeblurWorkspace::default()).unwrap();
+    assert_eq!(out, [10, 0, 70, 0, 10]);
+    let dst = Gray8ViewMut::new(&mut out, 5, 1, 5).unwrap();
+    fixed_binomial_unsharp_into(src, dst, &mut SharpenWorkspace::default()).unwrap();
+    assert_eq!(out, [8, 2, 59, 2, 8]);
+}
+
+#[test]
+fn the_whole_job() {
+    // along the columns of the ramp nothing changes: its direction is Vertical, and there is no length
+    let bytes = ramp();
+    let mut out = [9; 30];
+    let mut workspace = JobWorkspace::default();
+    let dst = Gray8ViewMut::new(&mut out, 10, 3, 10).unwrap();
+    let answer = restore(Gray8View::new(&bytes, 10, 3, 10).unwrap(), dst, &JobConfig::default(), &mut workspace);
+    assert_eq!(answer, Err(ImgProcError::NoLength));
+    assert_eq!(out, [9; 30]);
+    // bars of 12 columns, smeared over 5 columns, whose phase turns half round after each 2 rows: most changes are across the rows
+    let bar = |x: usize, y: usize| if (x / 12 + y / 2) % 2 == 0 { 0 } else { 250 };
+    let bytes: Vec<u8> = (0..60 * 60).map(|i| ((0..5).map(|k| bar(i % 60 + k, i / 60)).sum::<u32>() / 5) as u8).collect();
+    let src = Gray8View::new(&bytes, 60, 60, 60).unwrap();
+    let mut whole = vec![0; 60 * 60];
+    let dst = Gray8ViewMut::new(&mut whole, 60, 60, 60).unwrap();
+    let answer = restore(src, dst, &JobConfig::default(), &mut workspace).unwrap();
+    assert_eq!((answer.direction, answer.blur_length), (RasterDirection4::Horizontal, 5));
+    assert_eq!(Some(answer.estimate), estimate_line_length(src, 0.0));
+    // the same by the three calls
+    let mut parts = vec![0; 60 * 60];
+    let dst = Gray8ViewMut::new(&mut parts, 60, 60, 60).unwrap();
+    let config = VanCittertConfig { blur_length: 5, ..VanCittertConfig::default() };
+    van_cittert_line_into(src, dst, &config, &mut DeblurWorkspace::default()).unwrap();
+    assert!(whole == parts && whole != bytes);
+}
+
+#[test]
+fn bytes_around_a_picture_stay_and_do_not_matter() {
+    // the row, as two rows of one picture with 3 bytes of padding and 2 behind
+    let lay = |padding: u8| [&ROW[..], &[padding; 3], &ROW[..], &[padding; 2]].concat();
+    let mut workspace = SharpenWorkspace::default();
+    let mut pixels = Vec::new();
+    for padding in [0, 255] {
+        let (bytes, mut out) = (lay(padding), lay(padding));
+        let dst = Gray8ViewMut::new(&mut out, 5, 2, 8).unwrap();
+        fixed_binomial_unsharp_into(Gray8View::new(&bytes, 5, 2, 8).unwrap(), dst, &mut workspace).unwrap();
+        assert_eq!([&out[5..8], &out[13..]], [&[padding; 3][..], &[padding; 2][..]]);
+        pixels.push([out[..5].to_vec(), out[8..13].to_vec()]);
+    }
+    assert_eq!(pixels[0], pixels[1]);
+    assert_eq!(pixels[0], [[8, 2, 59, 2, 8], [8, 2, 59, 2, 8]]);
+}
+
+#[test]
+fn views() {
+    let mut bytes: Vec<u8> = (0..20).collect();
+    let view = Gray8View::new(&bytes, 3, 4, 5).unwrap();
+    assert_eq!((view.width(), view.height(), view.stride()), (3, 4, 5));
+    assert_eq!((view.row(1), view.get(2, 3), view.try_get(2, 3)), (&[5, 6, 7][..], 17, Some(17)));
+    assert_eq!((view.try_get(3, 0), view.try_get(0, 4)), (None, None));
+    let mut view = Gray8ViewMut::new(&mut bytes, 3, 4, 5).unwrap();
+    view.set(2, 3, 99);
+    view.row_mut(0)[1] = 98;
+    assert_eq!((view.get(2, 3), view.row(0), view.size()), (99, &[0, 98, 2][..], view.as_view().size()));
+    assert_eq!((bytes[17], bytes[1], bytes[3]), (99, 98, 3));
+}

@@ -1,0 +1,152 @@
+//! Each refusal at both sides of its limit, and that none changes a destination.
+
+use smear::blur::{estimate_line_length_with, LineLengthConfig, RasterDirection4};
+use smear::deblur::{
+    directional_unsharp_line_into, van_cittert_estimate_into, van_cittert_line_into, DeblurWorkspace, DirectionalUnsharpConfig,
+    VanCittertConfig,
+};
+use smear::job::{restore, JobConfig, JobWorkspace};
+use smear::sharpen::{fixed_binomial_unsharp_into, SharpenWorkspace};
+use smear::{Gray8View, Gray8ViewMut, ImgProcError, ImgProcResult, LumaError};
+
+const BYTES: [u8; 5] = [10, 10, 40, 10, 10];
+
+fn layout(len: usize, width: usize, height: usize, stride: usize) -> Result<(), LumaError> {
+    let mut bytes = vec![0; len];
+    let read = Gray8View::new(&bytes, width, height, stride).map(drop);
+    assert_eq!(Gray8ViewMut::new(&mut bytes, width, height, stride).map(drop), read);
+    read
+}
+
+#[test]
+fn layouts() {
+    assert_eq!(layout(1, 1, 1, 1), Ok(()));
+    assert_eq!(layout(9, 0, 1, 1), Err(LumaError::EmptyDimensions));
+    assert_eq!(layout(9, 1, 0, 1), Err(LumaError::EmptyDimensions));
+    assert_eq!(layout(1024 * 1024, 1024, 1024, 1024), Ok(()));
+    assert_eq!(layout(1025, 1025, 1, 1025), Err(LumaError::DimensionsTooLarge));
+    assert_eq!(layout(1025, 1, 1025, 1), Err(LumaError::DimensionsTooLarge));
+    assert_eq!(layout(9, 3, 3, 3), Ok(()));
+    assert_eq!(layout(9, 3, 3, 2), Err(LumaError::StrideTooSmall));
+    assert_eq!(layout(13, 3, 3, 5), Ok(()));
+    assert_eq!(layout(12, 3, 3, 5), Err(LumaError::BufferTooSmall));
+    assert_eq!(layout(9, 3, 3, usize::MAX), Err(LumaError::BufferTooSmall));
+}
+
+/// A call on the row, into a destination of the given width; a refusal must leave the destination.
+fn call<T>(width: usize, run: impl FnOnce(Gray8View<'_>, Gray8ViewMut<'_>) -> ImgProcResult<T>) -> Result<(), ImgProcError> {
+    let mut out = vec![77; width];
+    let answer = run(Gray8View::new(&BYTES, 5, 1, 5).unwrap(), Gray8ViewMut::new(&mut out, width, 1, width).unwrap());
+    assert!(answer.is_ok() || out.iter().all(|&byte| byte == 77), "a refusal changed the destination");
+    answer.map(drop)
+}
+
+fn restoration(config: VanCittertConfig) -> Result<(), ImgProcError> {
+    let answer = call(5, |src, dst| van_cittert_line_into(src, dst, &config, &mut DeblurWorkspace::default()));
+    let mut estimates = [0; 5];
+    let src = Gray8View::new(&BYTES, 5, 1, 5).unwrap();
+    let estimate = van_cittert_estimate_into(src, &mut estimates, &config, &mut DeblurWorkspace::default());
+    assert_eq!(estimate.map(drop), answer);
+    assert!(answer.is_ok() || estimates == [0; 5]);
+    answer
+}
+
+fn unsharp(config: DirectionalUnsharpConfig) -> Result<(), ImgProcError> {
+    call(5, |src, dst| directional_unsharp_line_into(src, dst, &config, &mut DeblurWorkspace::default()))
+}
+
+fn job(config: JobConfig) -> Result<(), ImgProcError> {
+    call(5, |src, dst| restore(src, dst, &config, &mut JobWorkspace::default()))
+}
+
+#[test]
+fn sizes_that_differ() {
+    let differ = Err(ImgProcError::DimensionMismatch);
+    let config = VanCittertConfig::default();
+    assert_eq!(call(4, |src, dst| van_cittert_line_into(src, dst, &config, &mut DeblurWorkspace::default())), differ);
+    let config = DirectionalUnsharpConfig::default();
+    assert_eq!(call(4, |src, dst| directional_unsharp_line_into(src, dst, &config, &mut DeblurWorkspace::default())), differ);
+    assert_eq!(call(4, |src, dst| fixed_binomial_unsharp_into(src, dst, &mut SharpenWorkspace::default())), differ);
+    assert_eq!(call(4, |src, dst| restore(src, dst, &JobConfig::default(), &mut JobWorkspace::default())), differ);
+    assert_eq!(call(5, |src, dst| fixed_binomial_unsharp_into(src, dst, &mut SharpenWorkspace::default())), Ok(()));
+}
+
+#[test]
+fn lengths_and_angles() {
+    let invalid = Err(ImgProcError::InvalidConfiguration);
+    for (blur_length, answer) in [(0, invalid), (1, invalid), (2, invalid), (3, Ok(())), (4, invalid), (11, Ok(())), (13, invalid)] {
+        assert_eq!(restoration(VanCittertConfig { blur_length, ..Default::default() }), answer, "length {blur_length}");
+        assert_eq!(unsharp(DirectionalUnsharpConfig { blur_length, ..Default::default() }), answer, "length {blur_length}");
+    }
+    for (theta_radians, answer) in [(f64::MAX, Ok(())), (f64::NAN, invalid), (f64::INFINITY, invalid), (f64::NEG_INFINITY, invalid)] {
+        assert_eq!(restoration(VanCittertConfig { theta_radians, ..Default::default() }), answer, "angle {theta_radians}");
+        assert_eq!(unsharp(DirectionalUnsharpConfig { theta_radians, ..Default::default() }), answer, "angle {theta_radians}");
+    }
+}
+
+#[test]
+fn factors_and_iterations() {
+    let invalid = Err(ImgProcError::InvalidConfiguration);
+    // the whole job finds no length in one row: it gets as far as that where its settings are accepted
+    let accepted = Err(ImgProcError::NoLength);
+    let many = Err(ImgProcError::TooManyIterations);
+    for (iterations, answer) in [(0, invalid), (1, Ok(())), (22, Ok(())), (23, many), (usize::MAX, many)] {
+        assert_eq!(restoration(VanCittertConfig { iterations, ..Default::default() }), answer, "{iterations} iterations");
+        assert_eq!(job(JobConfig { iterations, ..Default::default() }), if answer.is_ok() { accepted } else { answer });
+    }
+    let above = f64::from_bits(1.0f64.to_bits() + 1);
+    for (relaxation, answer) in [(-0.0, Ok(())), (1.0, Ok(())), (above, invalid), (-f64::MIN_POSITIVE, invalid), (f64::NAN, invalid)] {
+        assert_eq!(restoration(VanCittertConfig { relaxation, ..Default::default() }), answer, "relaxation {relaxation}");
+        assert_eq!(job(JobConfig { relaxation, ..Default::default() }), if answer.is_ok() { accepted } else { answer });
+    }
+    let above = f64::from_bits(8.0f64.to_bits() + 1);
+    for (gain, answer) in [(-0.0, Ok(())), (8.0, Ok(())), (above, invalid), (-f64::MIN_POSITIVE, invalid), (f64::INFINITY, invalid)] {
+        assert_eq!(unsharp(DirectionalUnsharpConfig { gain, ..Default::default() }), answer, "gain {gain}");
+    }
+}
+
+#[test]
+fn a_short_destination_for_estimates() {
+    let src = Gray8View::new(&BYTES, 5, 1, 5).unwrap();
+    let run = |out: &mut [i32]| van_cittert_estimate_into(src, out, &VanCittertConfig::default(), &mut DeblurWorkspace::default()).map(drop);
+    assert_eq!(run(&mut [0; 5]), Ok(()));
+    let mut short = [5; 4];
+    assert_eq!(run(&mut short), Err(ImgProcError::DestinationTooSmall));
+    assert_eq!(short, [5; 4]);
+}
+
+/// 100 by 100 pixels in stripes along the diagonals, so that the smear is along them. The 7 longest diagonals rise by 60 behind place
+/// `from`, and by 60 at their end: one swing, as wide as all that lies between.
+fn diagonals(from: usize) -> Vec<u8> {
+    let at = |x: usize, y: usize| {
+        let middle = if (x + 100 - y) / 4 % 2 == 0 { 100 } else { 150 };
+        match (x.abs_diff(y) <= 3, x.min(y), x.max(y)) {
+            (true, first, _) if first <= from => middle - 60,
+            (true, _, 99) => middle + 60,
+            _ => middle,
+        }
+    };
+    (0..100 * 100).map(|i| at(i % 100, i / 100)).collect()
+}
+
+#[test]
+fn a_length_beyond_the_picture() {
+    let thresholds = LineLengthConfig { minimum_transitions: 1, ..Default::default() };
+    let config = JobConfig { minimum_transitions: 1, ..Default::default() };
+    let run = |bytes: &[u8]| {
+        let mut out = vec![77; 100 * 100];
+        let src = Gray8View::new(bytes, 100, 100, 100).unwrap();
+        let dst = Gray8ViewMut::new(&mut out, 100, 100, 100).unwrap();
+        let answer = restore(src, dst, &config, &mut JobWorkspace::default());
+        assert!(answer.is_ok() || out == vec![77; 100 * 100]);
+        (estimate_line_length_with(src, 0.75, &thresholds).unwrap(), answer)
+    };
+    let (length, answer) = run(&diagonals(0));
+    assert!(length > 201.0, "{length}");
+    assert_eq!(answer, Err(ImgProcError::LengthTooLarge));
+    let (length, answer) = run(&diagonals(20));
+    assert!(length <= 201.0, "{length}");
+    let answer = answer.unwrap();
+    assert_eq!((answer.direction, answer.estimate), (RasterDirection4::DownRight, length));
+    assert!(answer.blur_length % 2 == 1 && answer.blur_length as f64 >= length && (answer.blur_length as f64) < length + 2.0);
+}

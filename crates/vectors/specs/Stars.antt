@@ -1,6 +1,6 @@
 -- Document 01's cases that are marked ★: all of them, in the document's order, are one list, and one theorem says that each has the value beside it. What a case has is
 -- told by the definitions that the calls' contracts cite.
-use Prim.Native.Nat.{ℕ, zero, suc, _*_}
+use Prim.Native.Nat.{ℕ, zero, suc}
 use mathlib.Core.List.{List, [], _∷_, _++_, map}
 use mathlib.Core.Path.{_≡_, refl}
 use lib.IntN.{ℤ, pos, negsuc}
@@ -8,7 +8,7 @@ use lib.Ieee.{binary64, ofBits, ofInt, add, sub, mul, div, rem, le, lt, eq}
 use lib.ListN.{length, getD}
 use Rattle.numbers.specs.Scalar.{clampByte}
 use Rattle.numbers.specs.Sum.{total, count}
-use Rattle.floats.specs.Factor.{within, roundedQ16, quantized}
+use Rattle.floats.specs.Factor.{quantized}
 use Rattle.floats.specs.declared.Quantized.{Quantized}
 use Rattle.floats.specs.declared.Quantized.the-variants.{Q16}
 use Rattle.image.specs.Picture.{pixel}
@@ -23,9 +23,8 @@ use Rattle.raster.specs.declared.border.BorderSample.the-variants.{Inside}
 use Rattle.raster.specs.declared.direction.RasterDirection4.{RasterDirection4}
 use Rattle.raster.specs.declared.direction.RasterDirection4.the-variants.{Horizontal, DownRight}
 use Rattle.blur.specs.Length.{lengthAnswer}
-use Rattle.blur.specs.Rise.{levelOf, crossedAt, placeAt, crossingOf, riseBetween, riseOf}
-use Rattle.blur.specs.Runs.{runsFrom, runsAfter}
-use Rattle.blur.specs.Swings.{swingsOf, lineSwings, swingsFrom}
+use Rattle.blur.specs.Rise.{levelOf, crossedAt, placeAt, crossingOf, riseBetween}
+use Rattle.blur.specs.Swings.{swingsFrom}
 use Rattle.blur.specs.Tensor.{gradientX, gradientY, rowSum, interiorSum, tensorSums, tensorDirection, estimateOf}
 use Rattle.blur.specs.declared.length.LengthAnswer.{LengthAnswer}
 use Rattle.blur.specs.declared.length.LengthAnswer.the-variants.{Length}
@@ -177,5 +176,5 @@ cases =
 -- ---- the theorem
 
 stars : map (λ c. value (c .asked)) cases ≡ map (λ c. c .must-be) cases
-unfolding cases value ramp three-ramps row written filtered _gives_ fromAngle ofBits ofInt add sub mul div rem le lt eq lengthAnswer layoutRefusal pairRefusal startCol startRow lineOf swingsFrom lineSwings swingsOf runsAfter runsFrom riseOf levelOf crossedAt placeAt crossingOf riseBetween borderMap mean window sample total quantized within roundedQ16 calls.estimateOf deblur.filterRefusal deblur.settingsRefusal estimate estimateOn after stepped plan jobRefusal settingsRefusal pictureDirection estimateOf tensorSums tensorDirection interiorSum rowSum gradientX gradientY sharper binomialSum tapPlace count binomialRefusal
+unfolding cases value ofBits ofInt add sub mul div rem le lt eq fromAngle lengthAnswer layoutRefusal pairRefusal startCol startRow lineOf swingsFrom levelOf crossedAt placeAt crossingOf riseBetween borderMap mean window sample total quantized calls.estimateOf deblur.filterRefusal deblur.settingsRefusal estimate estimateOn after stepped plan jobRefusal settingsRefusal pictureDirection estimateOf tensorSums tensorDirection interiorSum rowSum gradientX gradientY binomialRefusal sharper binomialSum tapPlace count
 stars = refl

@@ -43,7 +43,7 @@ fn refused_layouts(p: &Picture) -> [Picture; 4] {
 
 /// Lines of every shape: ramps both ways, plateaus at their ends and on either level, crossings on a sample, between two and in the first or last
 /// step, weak swings beside strong ones.
-const LINES: [&[u8]; 22] = [
+const LINES: [&[u8]; 23] = [
     &[0, 0, 0, 50, 100, 150, 200, 250, 250, 250],
     &[250, 250, 250, 200, 150, 100, 50, 0, 0, 0],
     &[0, 20, 20, 20, 80, 80, 80, 100],
@@ -65,6 +65,7 @@ const LINES: [&[u8]; 22] = [
     &[7, 7, 31, 31, 7],
     &[10, 200, 190, 200, 190, 10],
     &[0, 255],
+    &[0, 200, 150, 100, 200, 0],
     &[90, 60, 60, 20, 20, 140, 140, 255, 255, 3],
 ];
 
@@ -72,6 +73,11 @@ const LINES: [&[u8]; 22] = [
 fn stepped(random: &mut Random, width: usize, height: usize) -> Picture {
     let levels = 2 + random.below(5);
     tight(width, &(0..width * height).map(|_| (random.below(levels) * 255 / (levels - 1)) as u8).collect::<Vec<_>>())
+}
+
+/// Black and white alone: restorations of it swing far below 0 and above 255.
+fn saturated(random: &mut Random, width: usize, height: usize) -> Picture {
+    tight(width, &(0..width * height).map(|_| 255 * random.below(2) as u8).collect::<Vec<_>>())
 }
 
 fn noise(random: &mut Random, width: usize, height: usize) -> Picture {
@@ -84,7 +90,7 @@ fn either(random: &mut Random, turn: usize, width: usize, height: usize) -> Pict
 }
 
 /// Thin, small and square sizes.
-const SIZES: [(usize, usize); 10] = [(1, 1), (1, 6), (6, 1), (2, 2), (3, 3), (5, 3), (3, 5), (4, 7), (7, 4), (8, 8)];
+const SIZES: [(usize, usize); 12] = [(1, 1), (1, 6), (6, 1), (2, 2), (3, 3), (5, 3), (3, 5), (4, 7), (7, 4), (8, 8), (2, 5), (5, 2)];
 
 fn from_angle() -> Vec<Case> {
     let mut angles = vec![0.39, 0.40, -1.0, 3.0, f64::NAN, 0.0, -0.0, f64::INFINITY, f64::NEG_INFINITY, f64::MAX, f64::MIN_POSITIVE, f64::from_bits(1), -1e-300];
@@ -99,7 +105,7 @@ fn from_angle() -> Vec<Case> {
 
 fn direction(random: &mut Random) -> Vec<Case> {
     let mut pictures: Vec<_> = (0..4).map(|d| lines_of(d, LINES[0])).collect();
-    pictures.extend([[0, 0, 9, 0, 0, 9, 0, 0, 9], [0, 0, 0, 0, 0, 0, 9, 9, 9], [0, 0, 0, 0, 0, 9, 0, 9, 9], [0, 0, 0, 9, 0, 0, 9, 9, 0], [7; 9]].map(|p| tight(3, &p)));
+    pictures.extend([[0, 0, 9, 0, 0, 9, 0, 0, 9], [0, 0, 0, 0, 0, 0, 9, 9, 9], [0, 0, 0, 0, 0, 9, 0, 9, 9], [0, 0, 0, 9, 0, 0, 9, 9, 0], [0, 0, 1, 0, 0, 1, 0, 0, 1], [7; 9]].map(|p| tight(3, &p)));
     pictures.extend(SIZES.map(|(width, height)| noise(random, width, height)));
     pictures.extend(SIZES.map(|(width, height)| stepped(random, width, height)));
     let few: Vec<_> = pictures.iter().step_by(3).map(|p| padded(random, p, 2)).collect();
@@ -114,8 +120,15 @@ fn length(random: &mut Random) -> Vec<Case> {
     add(lines_of(0, LINES[0]), 0.0, 3, 24);
     add(lines_of(0, LINES[0]), 0.0, 4, 24);
     for line in LINES {
+        let back: Vec<u8> = line.iter().rev().copied().collect();
         add(lines_of(0, line), 0.0, 1, 24);
+        add(lines_of(0, &back), 0.0, 1, 24);
     }
+    // swings of just half the strongest stay: with them there are twelve
+    add(lines_of(0, &[0, 200, 150, 100, 200, 0]), 0.0, 12, 24);
+    // a side below 3, although the lines along the other are long enough
+    add(tight(2, &[0, 0, 90, 90, 200, 200]), 1.5, 1, 24);
+    add(tight(3, &[0, 90, 200, 0, 90, 200]), 0.0, 1, 24);
     for (k, line) in LINES.iter().enumerate() {
         let d = 1 + k % 3;
         add(lines_of(d, line), ALONG[d], 1 + k % 2, 1);
@@ -124,7 +137,7 @@ fn length(random: &mut Random) -> Vec<Case> {
     for (angle, count, amplitude) in [(0.0, 0, 24), (0.0, 1, 0), (0.0, 1, 250), (0.0, 1, 251), (0.0, 65_535, 1), (f64::NAN, 1, 24), (f64::INFINITY, 1, 24), (-1.6, 1, 24)] {
         add(lines_of(0, LINES[0]), angle, count, amplitude);
     }
-    for (k, (width, height)) in SIZES.into_iter().chain([(12, 9), (9, 12), (16, 8), (11, 11)]).enumerate() {
+    for (k, (width, height)) in SIZES.into_iter().chain([(12, 9), (9, 12), (16, 8), (11, 11), (9, 9), (10, 7), (7, 10), (6, 6)]).enumerate() {
         let (p, s) = (noise(random, width, height), stepped(random, width, height));
         add(padded(random, &p, k % 3), ALONG[k % 4], 1 + k % 4, 24);
         add(s.clone(), ALONG[(k + 1) % 4], 1, 1);
@@ -175,11 +188,15 @@ fn line_filter(random: &mut Random, call: Call, limit: f64) -> Vec<Case> {
     for factor in [0.0, -0.0, 2f64.powi(-17), f64::from_bits(2f64.powi(-17).to_bits() - 1), f64::from_bits(1), limit, 1.0, 0.7] {
         out.push(Case { factor, ..row.clone() });
     }
+    // where q is 1,639 the residual 40 counts, and where it is 1,638 it does not: half of 1 / 65,536 is rounded away from zero
+    let half = 1638.5f64 / 65_536.0;
+    let lone = Case { border: LineBorderMode::Constant(0), ..Case::new(call, tight(1, &[60])) };
+    out.extend([half, f64::from_bits(half.to_bits() - 1)].map(|factor| Case { factor, ..lone.clone() }));
     // at each limit, and beyond it
     out.push(Case { length: 11, ..row.clone() });
     out.extend([0, 1, 2, 4, 12, 13].map(|length| Case { length, ..row.clone() }));
     out.extend([f64::NAN, f64::INFINITY, f64::NEG_INFINITY].map(|angle| Case { angle, ..row.clone() }));
-    out.extend([f64::NAN, f64::INFINITY, -0.5, f64::from_bits(limit.to_bits() + 1)].map(|factor| Case { factor, ..row.clone() }));
+    out.extend([f64::NAN, f64::INFINITY, -0.5, -1e-9, f64::from_bits(limit.to_bits() + 1)].map(|factor| Case { factor, ..row.clone() }));
     let square = Case::new(call, noise(random, 4, 3));
     out.extend(refused_layouts(&square.source).map(|source| Case { source, ..square.clone() }));
     out.extend(refused_destinations(&square));
@@ -188,6 +205,12 @@ fn line_filter(random: &mut Random, call: Call, limit: f64) -> Vec<Case> {
 
 fn restoration(random: &mut Random) -> Vec<Case> {
     let mut out = line_filter(random, Call::Restoration, 1.0);
+    for (k, angle) in ALONG.into_iter().enumerate() {
+        for (j, border) in [LineBorderMode::Replicate, LineBorderMode::Reflect, LineBorderMode::Constant(90)].into_iter().enumerate() {
+            let source = saturated(random, 6 + k % 2, 5);
+            out.push(Case { angle, border, length: 3 + 2 * j, count: 3 + 2 * k, ..Case::new(Call::Restoration, source) });
+        }
+    }
     let row = Case::new(Call::Restoration, tight(5, &[10, 10, 40, 10, 10]));
     out.extend([0, 2, 3, 22].map(|count| Case { count, ..row.clone() }));
     out

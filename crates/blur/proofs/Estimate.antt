@@ -1,23 +1,28 @@
 -- From a scan's records to the call's answer: what the selection asks of them, and what a call answers and leaves.
 use mathlib.Core.Path.{_≡_, refl, sym, _∙_, ap, subst}
-use mathlib.Core.Bool.{Bool, true, false, cond, true≢false}
+use mathlib.Core.Bool.{Bool, true, false, not, cond, true≢false}
 use mathlib.Core.List.{List}
 use Prim.Native.Nat.{ℕ, _*_, _≤_, _<_}
 use native.Mathlib.Nat.{mul-le-mul}
 use native.Mathlib.Omega.{arith}
+use lib.Dec.{T}
+use lib.IntN.{ℤ}
+use lib.Ieee.{isNan}
 use lib.ListN.{length, take}
 use borrow.Author.Tests.{eq-eqb, ne-eqb}
 use Rattle.raster.specs.declared.direction.RasterDirection4.{RasterDirection4}
 use Rattle.blur.specs.declared.swings.Swing.{Swing}
 use Rattle.blur.specs.declared.scan.Scan.{Scan}
+use Rattle.blur.specs.declared.scan.Span.{Span}
 use Rattle.blur.specs.declared.select.Pass.{Pass}
 use Rattle.blur.specs.declared.length.LineLength.{LineLength}
 use Rattle.blur.specs.declared.length.LengthAnswer.{LengthAnswer}
 use Rattle.blur.specs.declared.length.LengthAnswer.the-variants.{Length, Refused}
 use Rattle.blur.specs.Scan.{rest, begun, Filled}
 use Rattle.blur.specs.Median.{strongest, lengthOf}
-use Rattle.blur.specs.Select.{started, Selectable}
+use Rattle.blur.specs.Select.{Widths, Starts, Opens, Selectable}
 use Rattle.blur.specs.Length.{lengthRefusal, lengthAlong, lengthAnswer, courseOf, Estimated}
+use Rattle.blur.proofs.Spans.{span-numbers, shared-digits}
 use Rattle.blur.proofs.Courses.{length-laid, enough-lent, pixels-fit, course-length, course-few, course-widths}
 
 -- the two cases of an answer differ
@@ -61,12 +66,20 @@ module _ (bytes : List ℕ) (w h stride : ℕ) (d : RasterDirection4) (m a : ℕ
       pub within-lent : length zs ≡ length ys → s .count ≤ length zs
       within-lent k = omega (arith, f .counted, all-lent)
 
-      pub selectable : (p : Pass) → p ≡ started (s .strongest) → Selectable (take (s .count) zs) p
+      widths : Widths all
+      widths = course-widths bytes (length ys) w h stride d m a e (f .are)
+
+      -- what `opened` asks for
+      pub numbers : T (not (isNan (s .span .least))) × T (not (isNan (s .span .greatest)))
+      numbers = subst (λ (r : Span). T (not (isNan (r .least))) × T (not (isNan (r .greatest)))) (sym (f .span)) (span-numbers all widths)
+
+      pub selectable : (p : Pass) → Opens (s .strongest) (s .span) p → Selectable (take (s .count) zs) p
       selectable p q =
           subst (λ (l : List Swing). Selectable l p) (sym front)
           (record {
-            starts = q ∙ ap started (f .top);
-            widths = course-widths bytes (length ys) w h stride d m a e (f .are);
+            starts = subst (λ (z : ℤ). Starts z p) (f .top) (q .starts);
+            same = shared-digits all widths p (rw (f .span) at (q .least)) (rw (f .span) at (q .greatest));
+            widths = widths;
             few = omega (arith, course-few bytes (length ys) w h stride d m a e, pixels-fit (length-laid (length bytes) w h stride (length ys) e));
           })
 

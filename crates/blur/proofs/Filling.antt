@@ -14,8 +14,9 @@ use Rattle.blur.specs.declared.scan.Course.{Course}
 use Rattle.blur.specs.declared.scan.Scan.{Scan}
 use Rattle.blur.specs.declared.scan.Scanned.{Scanned}
 use Rattle.blur.specs.Median.{larger, strongest}
-use Rattle.blur.specs.Scan.{rest, begun, Bytes, Scans, Filled}
+use Rattle.blur.specs.Scan.{rest, begun, widenedBy, spanOf, Bytes, Scans, Filled}
 use Rattle.blur.proofs.Strongest.{strongest-snoc}
+use Rattle.blur.proofs.Spans.{span-snoc}
 
 -- ---- one element more at the front of a list
 module _ {X : Type 0} where
@@ -36,6 +37,7 @@ module _ (Real : Scanned → Type 0) (bytes : List ℕ) (c : Course) (ys : List 
     pub whole : past ++ rest bytes c (out .next) ≡ all
     pub counted : out .next .count ≡ length past
     pub top : out .next .strongest ≡ strongest past
+    pub span : out .next .span ≡ spanOf past
     pub same : length list ≡ length ys
     pub place : out .on ≡ true → out .at ≤ length past - 1
     pub stored : take (length past) (cond (out .on) (set list (out .at) (out .swing)) list) ≡ past
@@ -50,6 +52,7 @@ module _ (Real : Scanned → Type 0) (bytes : List ℕ) (c : Course) (ys : List 
     whole = refl;
     counted = refl;
     top = refl;
+    span = refl;
     same = refl;
     place = λ _. omega arith;
     stored = refl;
@@ -69,6 +72,7 @@ module _ (Real : Scanned → Type 0) (bytes : List ℕ) (c : Course) (ys : List 
           counted = t .counted ∙ ap length past-is;
           listed = subst (λ (l : List Swing). take (length l) (t .list) ≡ l) past-is (ap (λ (b : Bool). take (length (t .past)) (cond b (set (t .list) (t .out .at) (t .out .swing)) (t .list))) (sym off) ∙ t .stored);
           top = t .top ∙ ap strongest past-is;
+          span = t .span ∙ ap spanOf past-is;
           are = t .ended off .1;
         }
       where
@@ -112,6 +116,10 @@ module _ (Real : Scanned → Type 0) (bytes : List ℕ) (c : Course) (ys : List 
           top-after true e = says .goes e .top ∙ ap (λ z. larger z (r .swing .swing)) (t .top) ∙ sym (strongest-snoc (t .past) (r .swing))
           top-after false e = ap (λ (s : Scan). s .strongest) (says .stops e .same) ∙ t .top
 
+          pub span-after : (b : Bool) → r .on ≡ b → r .next .span ≡ spanOf (longer b)
+          span-after true e = says .goes e .span ∙ ap (λ z. widenedBy z (r .swing .width)) (t .span) ∙ sym (span-snoc (spanOf []) (t .past) (r .swing))
+          span-after false e = ap (λ (s : Scan). s .span) (says .stops e .same) ∙ t .span
+
           pub place-after : (b : Bool) → r .on ≡ b → b ≡ true → r .at ≤ length (longer b) - 1
           place-after true e _ = omega (arith, says .goes e .at, t .counted, one-more)
           place-after false e z = absurd (true≢false (sym z))
@@ -143,6 +151,7 @@ module _ (Real : Scanned → Type 0) (bytes : List ℕ) (c : Course) (ys : List 
             whole = whole-after (r .on) refl;
             counted = counted-after (r .on) refl;
             top = top-after (r .on) refl;
+            span = span-after (r .on) refl;
             same = same-length;
             place = place-after (r .on) refl;
             stored = stored-after (r .on) refl;

@@ -22,6 +22,7 @@ pub mod SameLength
 pub mod SameSwings
 pub mod Scans
 pub mod Small
+pub mod Spans
 pub mod Steps
 pub mod Strongest
 pub mod SwingExamples

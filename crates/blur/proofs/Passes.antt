@@ -23,7 +23,7 @@ keys top l = map (toBits binary64) (kept top l)
 
 -- ---- the state: only its count changes
 abbrev pub withCount : Pass → ℕ → Pass
-withCount a n = record { strongest = a .strongest; prefix = a .prefix; shift = a .shift; place = a .place; kept = a .kept; count = n }
+withCount a n = record { on = a .on; strongest = a .strongest; prefix = a .prefix; shift = a .shift; place = a .place; kept = a .kept; count = n }
 
 passed-is : (s : Swing) (a : Pass) (n : ℕ) → passed s (withCount a n) ≡ withCount a (n + bit (counted s a))
 passed-is s a n = go (counted s a)

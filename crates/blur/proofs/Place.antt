@@ -91,7 +91,7 @@ sort-ascending [] = tt
 sort-ascending (x ∷ l) = insert-ascending x (sort leb l) (sort-ascending l)
 
 -- ---- the place in an ascending list
-under-none : (x : ℕ) (l : List ℕ) → Each (x ≤_) l → under x l ≡ 0
+pub under-none : (x : ℕ) (l : List ℕ) → Each (x ≤_) l → under x l ≡ 0
 under-none x [] e = refl
 under-none x (y ∷ l) e = rw (le-ltb y x (e .0)) (omega (arith, under-none x l (e .1)))
 

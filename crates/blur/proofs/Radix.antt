@@ -1,15 +1,16 @@
 -- Radix selection over keys: the digit in which the running sum of a pass's counts goes past the wanted place, and what it says of the key at that place.
-use mathlib.Core.Path.{_≡_, refl, sym, ap, _∙_}
+use mathlib.Core.Path.{_≡_, refl, sym, ap, _∙_, subst}
 use mathlib.Core.Bool.{Bool, true, false, not, cond}
 use mathlib.Core.List.{List, [], _∷_}
 use Prim.Native.Nat.{ℕ, suc, _+_, _-_, _*_, _/_, _≤_, _<_}
-use native.Mathlib.Nat.{zero-add, add-zero, add-suc, mul-assoc, mul-one, zero-mul, one-mul, suc-mul, div-lt-iff-lt-mul, le-div-iff-mul-le}
+use native.Mathlib.Nat.{zero-add, add-zero, add-suc, mul-assoc, mul-one, suc-mul, div-lt-iff-lt-mul, le-div-iff-mul-le}
 use native.Mathlib.Omega.{arith}
 use lib.Dec.{T, ltb, eqb, ltb→lt, nltb→le}
 use lib.ListN.{length, getD}
 use borrow.Author.Tests.{lt-ltb, le-ltb, eq-eqb, ne-eqb, ltb-true, ltb-false}
 use Rattle.blur.specs.Select.{pickFrom, Each}
-use Rattle.blur.proofs.Place.{bit, count, under, At, under-mono, count-le}
+use Rattle.blur.proofs.Each.{each-map}
+use Rattle.blur.proofs.Place.{bit, count, under, At, under-mono, under-none, count-le}
 
 -- how many keys have the part q above the unit u
 abbrev pub having : ℕ → ℕ → List ℕ → ℕ
@@ -111,21 +112,23 @@ pub narrowed-at : (k p r : ℕ) (l : List ℕ) → Narrowed k 1 p r l → At k p
 narrowed-at k p r l a =
     record { below = omega (arith, a .reached, ap (λ (t : ℕ). under t l) (mul-one p)); upTo = omega (arith, a .within, ap (λ (t : ℕ). under t l) (mul-one (suc p))) }
 
--- before the first digit nothing is known: the unit is above every key
-under-zero : (l : List ℕ) → under 0 l ≡ 0
-under-zero [] = refl
-under-zero (y ∷ l) = rw (le-ltb y 0 (omega arith)) (omega (arith, under-zero l))
-
+-- before the first pass: all keys have the digits p above the pass's digit
 under-all : (t : ℕ) (l : List ℕ) → Each (_< t) l → under t l ≡ length l
 under-all t [] e = refl
 under-all t (y ∷ l) e = rw (lt-ltb y t (e .0)) (omega (arith, under-all t l (e .1)))
 
-pub narrowed-start : (k u : ℕ) (l : List ℕ) → Each (_< u) l → k < length l → Narrowed k u 0 k l
-narrowed-start k u l e h =
+pub narrowed-start : (k u p : ℕ) (l : List ℕ) → 0 < u → Each (λ y. y / u / 8192 ≡ p) l → k < length l → Narrowed k (8192 * u) p k l
+narrowed-start k u p l U e h =
     record {
-      reached = omega (arith, under-zero l, ap (λ (t : ℕ). under t l) (zero-mul u));
-      within = omega (arith, under-all u l e, ap (λ (t : ℕ). under t l) (one-mul u));
+      reached = omega (arith, under-none (p * (8192 * u)) l (each-map (λ y. y / u / 8192 ≡ p) (p * (8192 * u) ≤_) from l e));
+      within = omega (arith, under-all (suc p * (8192 * u)) l (each-map (λ y. y / u / 8192 ≡ p) (_< suc p * (8192 * u)) to l e));
     }
+  where
+    from : (y : ℕ) → y / u / 8192 ≡ p → p * (8192 * u) ≤ y
+    from y q = subst (λ (t : ℕ). t ≤ y) (mul-assoc p 8192 u) (le-div-iff-mul-le U .0 (omega (arith, q)))
+
+    to : (y : ℕ) → y / u / 8192 ≡ p → y < suc p * (8192 * u)
+    to y q = subst (λ (t : ℕ). y < t) (mul-assoc (suc p) 8192 u) (div-lt-iff-lt-mul U .0 (omega (arith, q)))
 
 -- what is found is at most a key, so below whatever the keys are below
 pub narrowed-small : (k u p r top : ℕ) (l : List ℕ) → Each (_< top) l → Narrowed k u p r l → p * u < top

@@ -56,21 +56,21 @@ cond-le false = omega arith
 
 -- ---- one record: what is added is 1 where the pass counts it, else 0
 pub one-step : (s : Swing) (a : Pass) (cs : List ℕ) (h one : ℕ) → h ≡ high s a → one ≡ cond (stays (a .strongest) s && eqb (h / 8192) (a .prefix)) 1 0
-    → Tallied s a cs (set cs (h % 8192) (getD cs (h % 8192) 0 + one)) (record { strongest = a .strongest; prefix = a .prefix; shift = a .shift; place = a .place; kept = a .kept; count = a .count + one })
+    → Tallied s a cs (set cs (h % 8192) (getD cs (h % 8192) 0 + one)) (record { on = a .on; strongest = a .strongest; prefix = a .prefix; shift = a .shift; place = a .place; kept = a .kept; count = a .count + one })
 one-step s a cs h one e f = rw (f, e) (go (counted s a) refl)
   where
     d : ℕ
     d = high s a % 8192
 
     go : (b : Bool) → counted s a ≡ b
-        → Tallied s a cs (set cs d (getD cs d 0 + cond b 1 0)) (record { strongest = a .strongest; prefix = a .prefix; shift = a .shift; place = a .place; kept = a .kept; count = a .count + cond b 1 0 })
+        → Tallied s a cs (set cs d (getD cs d 0 + cond b 1 0)) (record { on = a .on; strongest = a .strongest; prefix = a .prefix; shift = a .shift; place = a .place; kept = a .kept; count = a .count + cond b 1 0 })
     go true q = record { state = rw q refl; counts = rw q refl }
     go false q = record { state = rw (q, add-zero (a .count)) refl; counts = rw (q, add-zero (getD cs d 0)) (set-getD cs d 0) }
 
 -- ---- the state behind a pass
 pub narrows : (a : Pass) (cs behind : List ℕ) (o : Chosen) (p shift kept : ℕ) → p ≡ wanted a → o ≡ pickFrom cs 0 p → shift ≡ a .shift - 13 → kept ≡ cond (isFirst a) (a .count) (a .kept)
     → behind ≡ replicate (length cs) 0 → length cs ≡ 8192
-    → Narrows a cs behind (record { strongest = a .strongest; prefix = a .prefix * 8192 + o .digit; shift = shift; place = o .place; kept = kept; count = 0 })
+    → Narrows a cs behind (record { on = not (eqb (a .shift) 0); strongest = a .strongest; prefix = a .prefix * 8192 + o .digit; shift = shift; place = o .place; kept = kept; count = 0 })
 unfolding zeros
 narrows a cs behind o p shift kept e f g h k n = record { state = rw (f, e, g, h) refl; counts = k ∙ ap (λ (m : ℕ). replicate m 0) n }
 

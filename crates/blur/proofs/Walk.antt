@@ -1,5 +1,5 @@
 -- Parts of walks over slices of structs. None says anything of what the structs are.
---     Loop     a loop with a state and a measure.        Fold, Times     the states of two loops, with their laws
+--     Loop     a loop with a state and a measure.        Fold     the state of a pass over records, with its laws
 --     Lend     a row of elements is lent for one call, as a `&mut [T]` or as a `&[T]`; a local array as such a row
 --     Call     what a callee asks, and what it has answered.        Lists    laws on lists
 pub mod Call
@@ -7,4 +7,3 @@ pub mod Fold
 pub mod Lend
 pub mod Lists
 pub mod Loop
-pub mod Times

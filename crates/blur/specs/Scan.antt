@@ -5,13 +5,14 @@ use mathlib.Core.Bool.{Bool, true, false, cond}
 use mathlib.Core.List.{List, [], _∷_}
 use lib.IntN.{pos}
 use lib.ListN.{length, getD, take}
-use lib.Ieee.{Float, binary64, ofBits}
+use lib.Ieee.{Float, binary64, ofBits, lt}
 use Rattle.blur.specs.declared.swings.Swing.{Swing}
 use Rattle.blur.specs.declared.scan.RunEnd.{RunEnd}
 use Rattle.blur.specs.declared.scan.OnLine.{OnLine}
 use Rattle.blur.specs.declared.scan.OnLine.the-variants.{Next, End}
 use Rattle.blur.specs.declared.scan.Course.{Course}
 use Rattle.blur.specs.declared.scan.Spotted.{Spotted}
+use Rattle.blur.specs.declared.scan.Span.{Span}
 use Rattle.blur.specs.declared.scan.Scan.{Scan}
 use Rattle.blur.specs.declared.scan.Scanned.{Scanned}
 use Rattle.blur.specs.Line.{Lines, linesOn}
@@ -65,12 +66,35 @@ said least pixel lines r = cond (r .on) (r .swing ∷ swingsAt least pixel lines
 abbrev pub rest : List ℕ → Course → Scan → List Swing
 rest bytes c s = swingsAt (c .«minimum_amplitude») (c .pixel) (linesOn bytes c) (s .place)
 
+-- ---- what the widths lie between
+
+abbrev pub lesser : Float → Float → Float
+lesser a b = cond (lt b a) b a
+
+abbrev pub greater : Float → Float → Float
+greater a b = cond (lt a b) b a
+
+-- one width more
+abbrev pub widenedBy : Span → Float → Span
+widenedBy span w = record { least = lesser (span .least) w; greatest = greater (span .greatest) w }
+
+-- those of a list
+abbrev pub spanFrom : Span → List Swing → Span
+spanFrom span [] = span
+spanFrom span (s ∷ l) = spanFrom (widenedBy span (s .width)) l
+
+-- .. from the ends 2048.0 and 0.5, which stand for no width at all
+abbrev pub spanOf : List Swing → Span
+spanOf l = spanFrom (record { least = ofBits binary64 0x40A0_0000_0000_0000; greatest = ofBits binary64 0x3FE0_0000_0000_0000 }) l
+
+-- ---- the answers
+
 abbrev pub begun : Scanned
 begun = record {
   on = true;
   at = 0;
   swing = record { width = ofBits binary64 0; swing = pos 0 };
-  next = record { place = record { line = 0; at = 0 }; strongest = pos 0; count = 0 };
+  next = record { place = record { line = 0; at = 0 }; strongest = pos 0; count = 0; span = spanOf [] };
 }
 
 -- the answer is the next swing, and where it is stored
@@ -79,6 +103,7 @@ pub record Goes (bytes : List ℕ) (c : Course) (s : Scan) (r : Scanned) : Type 
   pub at : r .at ≡ s .count
   pub count : r .next .count ≡ s .count + 1
   pub top : r .next .strongest ≡ larger (s .strongest) (r .swing .swing)
+  pub span : r .next .span ≡ widenedBy (s .span) (r .swing .width)
 
 -- the answer is that there is none
 pub record Stops (bytes : List ℕ) (c : Course) (s : Scan) (r : Scanned) : Type 0 where
@@ -93,9 +118,10 @@ pub record Scans (bytes : List ℕ) (c : Course) (s : Scan) (r : Scanned) : Type
   pub stops : r .on ≡ false → Stops bytes c s r
   pub are : Bytes bytes
 
--- The swings ss stand in order at the front of the records, and their number and the strongest of them are known.
+-- The swings ss stand in order at the front of the records, and their number, the strongest of them and their span are known.
 pub record Filled (bytes : List ℕ) (ss behind : List Swing) (s : Scan) : Type 0 where
   pub counted : s .count ≡ length ss
   pub listed : take (length ss) behind ≡ ss
   pub top : s .strongest ≡ strongest ss
+  pub span : s .span ≡ spanOf ss
   pub are : Bytes bytes

@@ -1,8 +1,8 @@
--- What the selection of the median does, pass by pass. The keys are the widths' bit patterns, read as five digits of 13 bits.
+-- What the selection of the median does, pass by pass. The keys are the widths' bit patterns, read as digits of 13 bits.
 use mathlib.Core.Path.{_≡_, refl}
-use mathlib.Core.Bool.{Bool, cond, not, _&&_, _||_}
+use mathlib.Core.Bool.{Bool, true, cond, not, _&&_, _||_}
 use mathlib.Core.List.{List, [], _∷_}
-use Prim.Native.Nat.{ℕ, zero, suc, _+_, _-_, _*_, _/_, _%_, _^_, _<_}
+use Prim.Native.Nat.{ℕ, suc, _+_, _-_, _*_, _/_, _%_, _^_, _≤_, _<_}
 use lib.Dec.{T, ltb, eqb}
 use lib.IntN.{ℤ, pos}
 use lib.ListN.{length, getD, set, replicate}
@@ -13,6 +13,7 @@ use Rattle.blur.specs.declared.length.LineLength.{LineLength}
 use Rattle.blur.specs.declared.length.LineLength.the-variants.{Found, Nothing}
 use Rattle.blur.specs.declared.select.Pass.{Pass}
 use Rattle.blur.specs.declared.select.Chosen.{Chosen}
+use Rattle.blur.specs.declared.scan.Span.{Span}
 use Rattle.blur.specs.Median.{strongest, stays, sixTenths}
 
 -- ---- one record's step in a pass
@@ -28,7 +29,7 @@ counted s a = stays (a .strongest) s && eqb (high s a / 8192) (a .prefix)
 abbrev pub passed : Swing → Pass → Pass
 passed s a =
     cond (counted s a)
-    (record { strongest = a .strongest; prefix = a .prefix; shift = a .shift; place = a .place; kept = a .kept; count = a .count + 1 })
+    (record { on = a .on; strongest = a .strongest; prefix = a .prefix; shift = a .shift; place = a .place; kept = a .kept; count = a .count + 1 })
     a
 
 abbrev pub tallied : Swing → Pass → List ℕ → List ℕ
@@ -54,7 +55,7 @@ pickFrom (c ∷ cs) digit place = cond (ltb place c) (record { digit = digit; pl
 
 -- the first pass counts all that stay, and the wanted place is half of that
 abbrev pub isFirst : Pass → Bool
-isFirst a = eqb (a .shift) 52
+isFirst a = eqb (a .kept) 0
 
 abbrev pub wanted : Pass → ℕ
 wanted a = cond (isFirst a) (a .count / 2) (a .place)
@@ -62,10 +63,7 @@ wanted a = cond (isFirst a) (a .count / 2) (a .place)
 abbrev pub narrowed : Pass → List ℕ → Pass
 narrowed a counts =
     let o = pickFrom counts 0 (wanted a) in
-    record { strongest = a .strongest; prefix = a .prefix * 8192 + o .digit; shift = a .shift - 13; place = o .place; kept = cond (isFirst a) (a .count) (a .kept); count = 0 }
-
-abbrev pub started : ℤ → Pass
-started top = record { strongest = top; prefix = 0; shift = 52; place = 0; kept = 0; count = 0 }
+    record { on = not (eqb (a .shift) 0); strongest = a .strongest; prefix = a .prefix * 8192 + o .digit; shift = a .shift - 13; place = o .place; kept = cond (isFirst a) (a .count) (a .kept); count = 0 }
 
 -- the counts that a pass starts from: 8,192 digits, none seen
 unfoldable pub zeros : List ℕ
@@ -75,15 +73,34 @@ zeros = replicate 8192 0
 abbrev pub round : List Swing → Pass → Pass
 round l a = narrowed (passAll l a) (tallyAll l a zeros)
 
--- the state after n passes
-abbrev pub after : ℕ → List Swing → ℤ → Pass
-after zero l top = started top
-after (suc n) l top = round l (after n l top)
-
 -- ---- after the last pass the prefix is the median's bit pattern
 abbrev pub answered : Pass → ℕ → LineLength
 answered a minimum =
     cond (eqb (a .kept) 0 || ltb (a .kept) minimum) Nothing (Found (div binary64 (ofBits binary64 (a .prefix)) sixTenths))
+
+-- ---- before the first pass
+
+-- two keys are equal above the digit at r
+pub record Shared (low high r : ℕ) : Type 0 where
+  pub whole : r % 13 ≡ 0
+  pub most : r ≤ 52
+  pub same : low / 2 ^ r / 8192 ≡ high / 2 ^ r / 8192
+
+-- no record was counted
+pub record Starts (top : ℤ) (a : Pass) : Type 0 where
+  pub on : a .on ≡ true
+  pub strongest : a .strongest ≡ top
+  pub whole : a .shift % 13 ≡ 0
+  pub most : a .shift ≤ 52
+  pub room : a .prefix * 2 ^ a .shift < 2 ^ 51
+  pub kept : a .kept ≡ 0
+  pub count : a .count ≡ 0
+
+-- .. and the digits above the first pass's digit are those of the least and of the greatest width
+pub record Opens (top : ℤ) (span : Span) (a : Pass) : Type 0 where
+  pub starts : Starts top a
+  pub least : toBits binary64 (span .least) / 2 ^ a .shift / 8192 ≡ a .prefix
+  pub greatest : toBits binary64 (span .greatest) / 2 ^ a .shift / 8192 ≡ a .prefix
 
 -- ---- what the steps ask for
 
@@ -116,9 +133,10 @@ abbrev pub Countables : List Swing → Pass → List ℕ → Type 0
 Countables [] a counts = Unit {0}
 Countables (s ∷ l) a counts = Countable s a counts × Countables l (passed s a) (tallied s a counts)
 
--- a selection from its start
+-- a selection from its start, the digits above its first pass's digit being the same in all keys
 pub record Selectable (l : List Swing) (first : Pass) : Type 0 where
-  pub starts : first ≡ started (strongest l)
+  pub starts : Starts (strongest l) first
+  pub same : Each (λ (s : Swing). high s first / 8192 ≡ first .prefix) l
   pub widths : Widths l
   pub few : length l < 2 ^ 32
 
@@ -142,6 +160,10 @@ two =
     record { width = ofBits binary64 0x4008000000000000; swing = pos 100 }
     ∷ (record { width = ofBits binary64 0x4004000000000000; swing = pos 50 } ∷ (record { width = ofBits binary64 0x4000000000000000; swing = pos 200 } ∷ []))
 
-example-passes : after 5 two (pos 200) .prefix ≡ 0x4008000000000000
-unfolding two zeros ofBits toBits
+-- from the digit at 39 on, since all widths have the same exponent
+opening : Pass
+opening = record { on = true; strongest = pos 200; prefix = 0x400; shift = 39; place = 0; kept = 0; count = 0 }
+
+example-passes : round two (round two (round two (round two opening))) .prefix ≡ 0x4008000000000000
+unfolding two opening zeros ofBits toBits
 example-passes = refl

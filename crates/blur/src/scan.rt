@@ -5,11 +5,13 @@ ghost use lib.ListN.{length};
 ghost use Rattle.blur.specs.Line.{sample, linesOn, InCourse};
 ghost use Rattle.blur.specs.Runs.{stepOf, turnsAt};
 ghost use Rattle.blur.specs.Swings.{scaledBy, lineSwings, swingsAt};
-ghost use Rattle.blur.specs.Scan.{slopeOf, LevelTo, SlopeTo, RunTo, saidOnLine, said, Scans, begun};
+ghost use Rattle.blur.specs.Scan.{slopeOf, LevelTo, SlopeTo, RunTo, saidOnLine, said, widenedBy, Scans, begun};
 use crate::rises::Rise;
 use crate::rises::rise_of;
 use crate::rises::sample_at;
+use crate::select::narrower;
 use crate::select::stronger;
+use crate::select::wider;
 use crate::swings::Swing;
 use raster::direction::RasterDirection4;
 use raster::lines::line_at;
@@ -52,11 +54,18 @@ pub struct Spotted {
     pub next: Place,
 }
 
-// How far a scan is: where it goes on, how many swings there were, and the strongest of them.
+// What some widths lie between.
+pub struct Span {
+    pub least: f64,
+    pub greatest: f64,
+}
+
+// How far a scan is: where it goes on, how many swings there were, the strongest of them, and what their widths lie between.
 pub struct Scan {
     pub place: Place,
     pub strongest: i32,
     pub count: usize,
+    pub span: Span,
 }
 
 // An answer of a scan: a swing to be stored at place `at`, or none. `next` is where the scan goes on.
@@ -210,6 +219,15 @@ fn next_swing(data: &[u8], course: Course, from: Place) -> Spotted
     }
 }
 
+fn widened(span: Span, width: f64) -> Span
+    ensures { λ r. ⌜ r ≡ widenedBy span width ⌝ }
+{
+    Span {
+        least: narrower(span.least, width),
+        greatest: wider(span.greatest, width),
+    }
+}
+
 // The scan's next answer.
 pub(crate) fn next(data: &[u8], course: Course, s: Scan) -> Scanned
     requires { ⌜ InCourse course (length (now «data»)) × (s .count < 2 ^ 63) ⌝ }
@@ -227,6 +245,7 @@ pub(crate) fn next(data: &[u8], course: Course, s: Scan) -> Scanned
         };
     }
     let strongest = stronger(s.strongest, swing.swing);
+    let span = widened(s.span, swing.width);
     let count = s.count + 1;
     let place = spotted.next;
     Scanned {
@@ -237,11 +256,13 @@ pub(crate) fn next(data: &[u8], course: Course, s: Scan) -> Scanned
             place,
             strongest,
             count,
+            span,
         },
     }
 }
 
-// Before the first answer: a scan that goes on from the first line. What it has to store, the first swing replaces.
+// Before the first answer: a scan that goes on from the first line. What it has to store, the first swing replaces. The span
+// is right from any two ends above 0; these are such that the first width replaces both.
 pub(crate) fn begin() -> Scanned
     ensures { λ r. ⌜ r ≡ begun ⌝ }
 {
@@ -256,6 +277,10 @@ pub(crate) fn begin() -> Scanned
             place: Place { line: 0, at: 0 },
             strongest: 0,
             count: 0,
+            span: Span {
+                least: 2048.0,
+                greatest: 0.5,
+            },
         },
     }
 }

@@ -1,6 +1,7 @@
 // The width at place count / 2 in ascending order, without sorting: radix selection over the widths' bit patterns,
-// five digits of 13 bits, the top digit first. A pass over the list counts the digits of the keys that are still in
-// question; the digit is chosen where the running sum of the counts goes past the wanted place.
+// digits of 13 bits, the top digit first. A pass over the list counts the digits of the keys that are still in
+// question; the digit is chosen where the running sum of the counts goes past the wanted place. It starts at the first digit
+// in which the least and the greatest width differ: digits that all keys share would make every count wait for the one before.
 use crate::length::LengthAnswer;
 use crate::length::LineLength;
 use crate::scan::Scan;
@@ -14,11 +15,13 @@ ghost use lib.Signed.{leZ};
 ghost use lib.ListN.{length, replicate};
 ghost use lib.Ieee.{binary64, isNan, nanBits, toBits};
 ghost use Rattle.blur.specs.Median.{larger};
-ghost use Rattle.blur.specs.Select.{pickFrom, isFirst, wanted, started, answered, Countable, Tallied, Narrowable, Narrows};
+ghost use Rattle.blur.specs.Scan.{lesser, greater};
+ghost use Rattle.blur.specs.Select.{pickFrom, isFirst, wanted, answered, Countable, Tallied, Narrowable, Narrows, Shared, Opens};
 
-// A pass: `count` records were counted so far, of those that stay and have the digits `prefix` above the digit at
-// `shift`. Of the keys with that prefix the one at `place` is wanted; `kept` swings stay in all.
+// A pass, where `on`: `count` records were counted so far, of those that stay and have the digits `prefix` above the digit at
+// `shift`. Of the keys with that prefix the one at `place` is wanted; `kept` swings stay in all, and 0 before the first pass.
 pub struct Pass {
+    pub on: bool,
     pub strongest: i32,
     pub prefix: u64,
     pub shift: u32,
@@ -36,6 +39,18 @@ pub fn stronger(a: i32, b: i32) -> i32
     ensures { λ r. ⌜ r ≡ larger a b ⌝ }
 {
     if a <= b { b } else { a }
+}
+
+pub fn narrower(a: f64, b: f64) -> f64
+    ensures { λ r. ⌜ r ≡ lesser a b ⌝ }
+{
+    if b < a { b } else { a }
+}
+
+pub fn wider(a: f64, b: f64) -> f64
+    ensures { λ r. ⌜ r ≡ greater a b ⌝ }
+{
+    if a < b { b } else { a }
 }
 
 fn stays(swing: i32, strongest: i32) -> bool
@@ -114,7 +129,7 @@ fn middle(count: u32) -> u32
 fn place_of(a: Pass) -> u32
     ensures { λ r. ⌜ r ≡ wanted a ⌝ }
 {
-    if a.shift == 52 {
+    if a.kept == 0 {
         middle(a.count)
     } else {
         a.place
@@ -124,7 +139,7 @@ fn place_of(a: Pass) -> u32
 fn kept_of(a: Pass) -> u32
     ensures { λ r. ⌜ r ≡ cond (isFirst a) (a .count) (a .kept) ⌝ }
 {
-    if a.shift == 52 { a.count } else { a.kept }
+    if a.kept == 0 { a.count } else { a.kept }
 }
 
 fn next_shift(shift: u32) -> u32
@@ -141,6 +156,7 @@ pub(crate) fn narrow(a: Pass, counts: &mut [u32]) -> Pass
     let chosen = choose(counts, place_of(a));
     clear(counts);
     let mut next = a;
+    next.on = a.shift != 0;
     next.prefix = a.prefix * 8192 + chosen.digit as u64;
     next.shift = next_shift(a.shift);
     next.place = chosen.place;
@@ -149,14 +165,32 @@ pub(crate) fn narrow(a: Pass, counts: &mut [u32]) -> Pass
     next
 }
 
+// The place of the first digit in which two keys differ, and of the last digit where they are equal.
+fn shared(low: u64, high: u64) -> u32
+    ensures { λ r. ⌜ Shared low high r ⌝ }
+{
+    let mut shift = 0;
+    while shift < 52 {
+        if (low >> shift) / 8192 == (high >> shift) / 8192 {
+            return shift;
+        }
+        shift += 13;
+    }
+    shift
+}
+
 // Before the first pass, over the records of a scan.
 pub(crate) fn opened(s: Scan) -> Pass
-    ensures { λ r. ⌜ r ≡ started (s .strongest) ⌝ }
+    requires { ⌜ T (not (isNan (s .span .least))) × T (not (isNan (s .span .greatest))) ⌝ }
+    ensures { λ r. ⌜ Opens (s .strongest) (s .span) r ⌝ }
 {
+    let low = f64::to_bits(s.span.least);
+    let shift = shared(low, f64::to_bits(s.span.greatest));
     Pass {
+        on: true,
         strongest: s.strongest,
-        prefix: 0,
-        shift: 52,
+        prefix: (low >> shift) / 8192,
+        shift,
         place: 0,
         kept: 0,
         count: 0,
@@ -165,7 +199,7 @@ pub(crate) fn opened(s: Scan) -> Pass
 
 // After the last pass: the prefix is the median's bit pattern.
 fn answer(a: Pass, minimum: usize) -> LineLength
-    requires { ⌜ T (not (nanBits binary64 (a .prefix))) ⌝ }
+    requires { ⌜ (0 < a .kept → T (not (nanBits binary64 (a .prefix)))) ⌝ }
     ensures { λ r. ⌜ r ≡ answered a minimum ⌝ }
 {
     if a.kept == 0 {
@@ -178,7 +212,7 @@ fn answer(a: Pass, minimum: usize) -> LineLength
 }
 
 pub(crate) fn measured(a: Pass, minimum: usize) -> LengthAnswer
-    requires { ⌜ T (not (nanBits binary64 (a .prefix))) ⌝ }
+    requires { ⌜ (0 < a .kept → T (not (nanBits binary64 (a .prefix)))) ⌝ }
     ensures { λ r. ⌜ r ≡ LengthAnswer.Length (answered a minimum) ⌝ }
 {
     LengthAnswer::Length(answer(a, minimum))

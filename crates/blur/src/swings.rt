@@ -59,11 +59,9 @@ pub(crate) fn select(swings: &[Swing], n: usize, first: Pass, minimum: usize) ->
 {
     let mut counts = [0u32; 8192];
     let mut a = first;
-    let mut k: usize = 0;
-    while k < 5 {
+    while a.on {
         let b = pass(swings, n, a, &mut counts);
         a = narrow(b, &mut counts);
-        k += 1;
     }
     measured(a, minimum)
 }

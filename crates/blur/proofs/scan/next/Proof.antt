@@ -1,4 +1,4 @@
--- `blur::scan::next` meets its contract: what `next_swing` says, with the number of swings and the strongest. Assumes nothing.
+-- `blur::scan::next` meets its contract: what `next_swing` says, with the number of swings, the strongest and their span. Assumes nothing.
 use mathlib.Core.Path.{_∙_, ap₂}
 use native.Mathlib.Omega.{arith}
 use borrow.Author.Needs.{needs}
@@ -23,12 +23,15 @@ returns c =
 stronger-requires : tie.Need-stronger-requires
 stronger-requires c κs = search needs
 
+widened-requires : tie.Need-widened-requires
+widened-requires c κs = search needs
+
 add-count : tie.Need-add-count
 add-count c = search needs
 
 returns-2 : tie.Need-returns-2
 returns-2 c =
-    let g = c .before .before in
+    let g = c .before .before .before in
     let t = g .before .before .before in
     let n = t .before .before .before in
     let k = n .before .before in
@@ -37,6 +40,7 @@ returns-2 c =
     (toZ-ofZ w32 _ (record { sfits = g .stronger .ok })
     ∙ g .stronger .ensures
     ∙ ap₂ larger (toZ-ofZ w32 (k .before .args .s .strongest) (record { sfits = omega (arith, g .before .before .struct-told .given) })) (toZ-ofZ w32 (n .next-swing .result .swing .swing) (record { sfits = omega (arith, g .before .struct-told2 .given) })))
+    (c .before .before .widened .ensures)
 
 pub next-spec : {M : Type 1} → statement M
-next-spec = tie.close (tie.spec next-swing-requires returns stronger-requires add-count returns-2)
+next-spec = tie.close (tie.spec next-swing-requires returns stronger-requires widened-requires add-count returns-2)

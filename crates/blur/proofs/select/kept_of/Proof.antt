@@ -5,10 +5,10 @@ use Rattle.blur.proofs.select.kept_of.Statement.{statement}
 use Rattle.blur.proofs.select.kept_of.Tie as tie
 
 returns : tie.Need-returns
-returns c = rw (eq-eqb _ 52 (c .if1 .taken)) refl
+returns c = rw (eq-eqb _ 0 (c .if1 .taken)) refl
 
 returns-2 : tie.Need-returns-2
-returns-2 c = rw (ne-eqb _ 52 (c .if1 .left)) refl
+returns-2 c = rw (ne-eqb _ 0 (c .if1 .left)) refl
 
 pub kept-of-spec : {M : Type 1} → statement M
 kept-of-spec = tie.close (tie.spec returns returns-2)

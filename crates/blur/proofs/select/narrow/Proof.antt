@@ -21,9 +21,9 @@ mul-next c = search needs
 
 add-next : tie.Need-add-next
 add-next c =
-    let counts = c .before .before .before .before .before .before .before .before .before .args .counts .now in
-    let digit : c .before .before .before .before .before .choose .result .digit < 0 + length counts = rw (c .before .before .before .before .before .choose .ensures) (pick-lt counts 0 (c .before .before .before .before .before .before .place-of .result) (omega (arith, c .before .before .before .before .before .before .before .before .before .pre .digits))) in
-    record { fits = omega (arith, c .before .before .before .before .before .before .before .before .before .pre .digits, c .before .before .before .before .before .before .before .before .before .pre .room) }
+    let counts = c .before .before .before .before .before .before .before .before .before .before .args .counts .now in
+    let digit : c .before .before .before .before .before .before .choose .result .digit < 0 + length counts = rw (c .before .before .before .before .before .before .choose .ensures) (pick-lt counts 0 (c .before .before .before .before .before .before .before .place-of .result) (omega (arith, c .before .before .before .before .before .before .before .before .before .before .pre .digits))) in
+    record { fits = omega (arith, c .before .before .before .before .before .before .before .before .before .before .pre .digits, c .before .before .before .before .before .before .before .before .before .before .pre .room) }
 
 next-shift-requires : tie.Need-next-shift-requires
 next-shift-requires c κs = search needs
@@ -36,8 +36,8 @@ same-length c = search needs
 
 returns : tie.Need-returns
 returns c =
-    narrows _ _ _ (c .before .before .before .before .before .before .before .choose .result) (c .before .before .before .before .before .before .before .before .place-of .result) _ _ (c .before .before .before .before .before .before .before .before .place-of .ensures) (c .before .before .before .before .before .before .before .choose .ensures) (c .before .next-shift .ensures) (c .kept-of .ensures)
-    (c .before .before .before .before .before .clear .ensures) (c .before .before .before .before .before .before .before .before .before .before .before .pre .digits)
+    narrows _ _ _ (c .before .before .before .before .before .before .before .before .choose .result) (c .before .before .before .before .before .before .before .before .before .place-of .result) _ _ (c .before .before .before .before .before .before .before .before .before .place-of .ensures) (c .before .before .before .before .before .before .before .before .choose .ensures) (c .before .next-shift .ensures) (c .kept-of .ensures)
+    (c .before .before .before .before .before .before .clear .ensures) (c .before .before .before .before .before .before .before .before .before .before .before .before .pre .digits)
 
 pub narrow-spec : {M : Type 1} → statement M
 narrow-spec =

@@ -9,10 +9,10 @@ middle-requires : tie.Need-middle-requires
 middle-requires c κs = search needs
 
 returns : tie.Need-returns
-returns c = rw (eq-eqb _ 52 (c .before .if1 .taken)) (c .middle .ensures)
+returns c = rw (eq-eqb _ 0 (c .before .if1 .taken)) (c .middle .ensures)
 
 returns-2 : tie.Need-returns-2
-returns-2 c = rw (ne-eqb _ 52 (c .if1 .left)) refl
+returns-2 c = rw (ne-eqb _ 0 (c .if1 .left)) refl
 
 pub place-of-spec : {M : Type 1} → statement M
 place-of-spec = tie.close (tie.spec middle-requires returns returns-2)

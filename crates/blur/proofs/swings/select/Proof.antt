@@ -1,11 +1,10 @@
 -- `swings::select` meets its contract: a walk of its MIR, by hand. The local array is a row of numbers from where it is written to where it is freed; in a turn it is lent to `pass` and to the covered choice of a digit, and the records' reference is copied.
 -- Assumes nothing.
 use mathlib.Core.Path.{_≡_, refl, sym, _∙_, ap, subst}
-use Prim.Native.Nat.{ℕ, _+_, _-_, _≤_, _<_, _^_}
-use native.Mathlib.Omega.{arith}
-use mathlib.Core.Bool.{Bool, true, false, not}
+use Prim.Native.Nat.{ℕ, suc, _≤_, _<_, _^_}
+use mathlib.Core.Bool.{Bool, true, false, not, cond}
 use mathlib.Core.List.{[], _∷_, List}
-use lib.Dec.{T, ltb, ltb→lt, nltb→le, lit<}
+use lib.Dec.{T, lit<}
 use lib.IntN.{pos}
 use lib.ListN.{length, take, replicate, length-replicate}
 use lib.Ieee.{binary64, ofBits, nanBits}
@@ -22,8 +21,8 @@ use ghost.Atoms.{Atoms}
 use contract.Monad.{Fun}
 use contract.Running.{givenOf, tables, tablesOf}
 use types.Kit.{Given, Item, ‵, raw, _⊛_, ⋆, Seq, Go, Post, anyQ, atRet, post, runs, _$_, _∵_, !, qed, by, move, keep, drop, group, use0, use1, use2, split, join, rewrite, fsplit, fjoin, feqL, suffices, frame, done}
-use types.Run.{Below, look, init, store, forget, stop, from, load, lit, of-opd, bin, addr, and-then, no-more, assigns, assigns-last, first, blocks, stays, leaves-loop, land, returns, enter, alloc1, alloc0, params1, pass1, pass0, free1, free0, exec}
-use types.Part.{agg, rep}
+use types.Run.{Below, look, init, store, forget, stop, fld, from, load, lit, of-opd, addr, and-then, no-more, assigns, first, blocks, stays, leaves-loop, land, land-last, returns, enter, alloc1, alloc0, params1, pass1, pass0, free1, free0, exec}
+use types.Part.{whole, sub, look-in, agg, rep}
 use sound.WpLaws.{FmC, fmOf, WpFn-mono}
 use denote.RattleType.{owns}
 use denote.Laws.{Is}
@@ -37,15 +36,15 @@ use denote.Signature.{plain}
 use denote.Steps.{only, owned, nothing}
 use denote.Struct.Laws as LL
 use denote.Enum.Laws as EL
-use denote.Triple.Call.{calls-at}
+use denote.Triple.Call.{calls-at, calls-at-last}
 use denote.Triple.Entry.{onEntry}
 use denote.Triple.Statement.{Contract, Triple}
 use denote.Triple.Spec.{Meets, tripleOf}
 use denote.Triple.Table.{entered, cited}
 use denote.Triple.Walked.{says, needs, Stays, stay-dropped, walkOf, AllGo, goes-dropped, Walks, ends-at, walked, walk-meets}
 use denote.Exit.{yes}
-use Rattle.blur.specs.Median.{strongest, lengthOf}
-use Rattle.blur.specs.Select.{passAll, tallyAll, narrowed, started, zeros, after, answered, Countables, Passes, Narrowable, Narrows, Selectable}
+use Rattle.blur.specs.Median.{lengthOf}
+use Rattle.blur.specs.Select.{passAll, tallyAll, narrowed, zeros, round, answered, Countables, Passes, Narrowable, Narrows, Selectable}
 use Rattle.blur.specs.declared.swings.Swing.{Swing}
 use Rattle.blur.specs.declared.select.Pass.{Pass}
 use Rattle.blur.specs.declared.length.LengthAnswer.{LengthAnswer}
@@ -55,12 +54,10 @@ use Rattle.blur.proofs.select.Pass as P
 use Rattle.blur.proofs.select.Pass.Laws as P′
 use Rattle.blur.proofs.length.LengthAnswer as R
 use Rattle.blur.proofs.length.LengthAnswer.Laws as R′
-use Rattle.blur.proofs.Walk.Lists.{one-more}
-use Rattle.blur.proofs.Rounds.{countables, narrowable, five-passes-number, five-passes-length}
+use Rattle.blur.proofs.Rounds.{Known as Between, known-first, known-next, less, countables, narrowable, passes-number, passes-length}
 use Rattle.blur.proofs.Walk.Loop.{by-test, Less, state-loop, next-turn}
 use Rattle.blur.proofs.Walk.Call.{stating, answers}
 use Rattle.blur.proofs.Walk.Lend.{lends, ends-loan, array-row, row-room, array-typed, big-lit}
-use Rattle.blur.proofs.Walk.Times as L
 use Rattle.blur.proofs.swings.pass as pass
 use Rattle.blur.proofs.swings.pass.Symbol as pass-def
 use Rattle.blur.proofs.swings.pass.Symbol.{name as #pass}
@@ -92,14 +89,6 @@ Both = Pass × List ℕ
 abbrev onward : List Swing → Both → Both
 onward l t = (narrowed (passAll l (t .0)) (tallyAll l (t .0) (t .1)), zeros)
 
--- the state after k passes
-abbrev state : List Swing → ℕ → Both
-state l k = (after k l (strongest l), zeros)
-
-begins : (l : List Swing) (p : Pass) → p ≡ started (strongest l) → (p, replicate 8192 0) ≡ state l 0
-unfolding zeros
-begins l p e = λ i. (e i, replicate 8192 0)
-
 passes-is : (l : List Swing) (t : Both) (r : Pass) (cs : List ℕ) → Passes l (t .0) (t .1) cs r → _≡_ {A = Both} (r, cs) (passAll l (t .0), tallyAll l (t .0) (t .1))
 passes-is l t r cs e = λ i. (e .state i, e .counts i)
 
@@ -109,13 +98,10 @@ onward-is l t r₁ cs₁ e r₂ cs₂ e′ = narrows-is ∙ ap (λ (u : Both). (
     narrows-is : _≡_ {A = Both} (r₂, cs₂) (narrowed r₁ cs₁, zeros)
     narrows-is = λ i. (e′ .state i, e′ .counts i)
 
--- a pass and what follows it have what they ask for
-record Round (l : List Swing) (t : Both) : Type 0 where
-  counts : Countables l (t .0) (t .1)
-  narrows : Narrowable (passAll l (t .0)) (tallyAll l (t .0) (t .1))
-
-round-of : (l : List Swing) (p : Pass) → Selectable l p → (k : ℕ) → k < 5 → Round l (state l k)
-round-of l p s k h = record { counts = countables k l (record { width = ofBits binary64 0; swing = pos 0 }) (strongest l) (s .widths) (s .few); narrows = narrowable k l (strongest l) h (s .widths) }
+-- the counts before the first pass
+no-counts : replicate 8192 0 ≡ zeros
+unfolding zeros
+no-counts = refl
 
 -- the size of the local array
 abbrev size : ℕ
@@ -176,8 +162,15 @@ module _ {M : Type 1} (𝓤 : URA M) (H : Heap 𝓤) (A : Atoms 𝓤) (W : Given
   abbrev Real : Both → Type 0
   Real t = Is P.the-row (t .0) (pass-val (t .0) ∷ []) × (length (t .1) ≡ size)
 
-  abbrev At : Type 0
-  At = L.At (state ss) Real 5
+  record At : Type 0 where
+    acc : Both
+    real : Real acc
+    none : acc .1 ≡ zeros
+    known : Between ss (acc .0)
+
+  -- what is left to do
+  abbrev μ : At → ℕ
+  μ t = cond (t .acc .0 .on) (suc (t .acc .0 .shift)) 0
 
   -- ---- what the callees' triples bind outside, and that the caller has what they ask
   abbrev to-pass : ℕ → ℕ → GName → Both → PassC 𝓤 H A mem run .Ghost
@@ -197,7 +190,7 @@ module _ {M : Type 1} (𝓤 : URA M) (H : Heap 𝓤) (A : Atoms 𝓤) (W : Given
       qed W (Lent l α δ (t .1) ∷ ‵ (flft (α ∷ []) fullShare) ∷ []) ∵ says ! may $ nothing ! $ move ! (2 ∷ 0 ∷ []) $ join ! $ frame ! $
       nothing ! $ move ! (1 ∷ 0 ∷ []) $ fjoin ! $ owned ! P.the-row (Is P.the-row) (LL.makes P.the-type P′.the-plain 𝓤 H A) (t .0) _ is $ fjoin ! $ done !
 
-  asked-found : (c : Pass) → m < 2 ^ 64 → T (not (nanBits binary64 (c .prefix))) → Is P.the-row c (pass-val c ∷ []) → ent 𝓤 (emp 𝓤) (FoundC 𝓤 H A mem run .pre (to-found c))
+  asked-found : (c : Pass) → m < 2 ^ 64 → (0 < c .kept → T (not (nanBits binary64 (c .prefix)))) → Is P.the-row c (pass-val c ∷ []) → ent 𝓤 (emp 𝓤) (FoundC 𝓤 H A mem run .pre (to-found c))
   asked-found c m-fits number is =
       qed W [] ∵ says ! number $ nothing ! $ frame ! $ nothing ! $ owned ! usize (Is usize) (uint-makes 𝓤 H A W w64) m _ (refl, m-fits) $ fjoin ! $ owned ! P.the-row (Is P.the-row) (LL.makes P.the-type P′.the-plain 𝓤 H A) c _ is $ fjoin ! $ done !
 
@@ -216,7 +209,26 @@ module _ {M : Type 1} (𝓤 : URA M) (H : Heap 𝓤) (A : Atoms 𝓤) (W : Given
         nothing ! $ move ! (1 ∷ 0 ∷ []) $ join ! $ frame ! $ nothing ! $ nothing ! $ fjoin ! $ nothing ! $ fjoin ! $ nothing ! $ fjoin ! $ nothing ! $ fjoin ! $ frame ! $
         owned ! R.the-row (Is R.the-row) (EL.makes R.the-type R′.the-plain 𝓤 H A) r _ is $ done !
 
-    module _ (𝓣 : Tables 𝓤 H) (known : Known 𝓤 H A mem run 𝓣) (l₀ l₁ l₂ l₃ lm l₄ l₅ l₆ l₇ l₈ l₉ l₁₀ l₁₁ l₁₂ : ℕ) where
+    module _ (t : At) (on : t .acc .0 .on ≡ true) where
+      counts-asked : Countables ss (t .acc .0) (t .acc .1)
+      counts-asked = subst (Countables ss (t .acc .0)) (sym (t .none)) (countables ss (record { width = ofBits binary64 0; swing = pos 0 }) (t .acc .0) (t .known) (selects .widths) (selects .few))
+
+      narrow-asked : Narrowable (passAll ss (t .acc .0)) (tallyAll ss (t .acc .0) (t .acc .1))
+      narrow-asked = subst (λ (cs : List ℕ). Narrowable (passAll ss (t .acc .0)) (tallyAll ss (t .acc .0) cs)) (sym (t .none)) (narrowable ss (t .acc .0) (t .known) on)
+
+      module _ (u : Both) (e : u ≡ onward ss (t .acc)) where
+        round-is : u .0 ≡ round ss (t .acc .0)
+        round-is = ap (λ (v : Both). v .0) e ∙ ap (λ (cs : List ℕ). narrowed (passAll ss (t .acc .0)) (tallyAll ss (t .acc .0) cs)) (t .none)
+
+        abbrev after : Real u → At
+        after is = record { acc = u; real = is; none = ap (λ (v : Both). v .1) e; known = subst (Between ss) (sym round-is) (known-next ss (t .acc .0) (t .known) on (selects .widths)) }
+
+        less-after : cond (u .0 .on) (suc (u .0 .shift)) 0 < μ t
+        less-after =
+            subst (λ (b : Bool). cond (u .0 .on) (suc (u .0 .shift)) 0 < cond b (suc (t .acc .0 .shift)) 0) (sym on)
+            (subst (λ (a : Pass). cond (a .on) (suc (a .shift)) 0 < suc (t .acc .0 .shift)) (sym round-is) (less ss (t .acc .0) (t .known) on))
+
+    module _ (𝓣 : Tables 𝓤 H) (known : Known 𝓤 H A mem run 𝓣) (l₀ l₁ l₂ l₃ lm l₄ l₅ l₆ l₇ l₈ l₉ l₁₀ l₁₁ : ℕ) where
       abbrev fm : FmC 𝓤 H (W .laws) (𝓣 .C)
       fm = fmOf 𝓤 H (W .laws) 𝓣
 
@@ -236,25 +248,22 @@ module _ {M : Type 1} (𝓤 : URA M) (H : Heap 𝓤) (A : Atoms 𝓤) (W : Given
       slice-ty = sliceTy (tyRef erased mut (tyInt w32))
 
       abbrev En : Env 𝓤 H
-      En = (R′.mir, l₀) ∷ (records-ty, l₁) ∷ (word, l₂) ∷ (P′.mir, l₃) ∷ (word, lm) ∷ (array-ty, l₄) ∷ (P′.mir, l₅) ∷ (word, l₆) ∷ (P′.mir, l₇) ∷ (tyBool, l₈) ∷ (lent-ty, l₉) ∷ (slice-ty, l₁₀) ∷ (lent-ty, l₁₁) ∷ (slice-ty, l₁₂) ∷ []
+      En = (R′.mir, l₀) ∷ (records-ty, l₁) ∷ (word, l₂) ∷ (P′.mir, l₃) ∷ (word, lm) ∷ (array-ty, l₄) ∷ (P′.mir, l₅) ∷ (P′.mir, l₆) ∷ (tyBool, l₇) ∷ (lent-ty, l₈) ∷ (slice-ty, l₉) ∷ (lent-ty, l₁₀) ∷ (slice-ty, l₁₁) ∷ []
 
       -- what no turn touches
       abbrev Frame : List (Item 𝓤)
       Frame = ‵ (fat fullShare records-ty l₁ 0 records-val) ∷ ‵ (fat fullShare word l₂ 0 (vint w64 n)) ∷ ‵ (fat fullShare P′.mir l₃ 0 (pass-val p)) ∷ ‵ (fat fullShare word lm 0 (vint w64 m)) ∷ ‵ (froom R′.mir l₀ 0)
-          ∷ ‵ (fdies R′.mir l₀) ∷ ‵ (fdies records-ty l₁) ∷ ‵ (fdies word l₂) ∷ ‵ (fdies P′.mir l₃) ∷ ‵ (fdies word lm) ∷ ‵ (fdies array-ty l₄) ∷ ‵ (fdies P′.mir l₅) ∷ ‵ (fdies word l₆) ∷ ‵ (fdies P′.mir l₇) ∷ ‵ (fdies tyBool l₈)
-          ∷ ‵ (fdies lent-ty l₉) ∷ ‵ (fdies slice-ty l₁₀) ∷ ‵ (fdies lent-ty l₁₁) ∷ ‵ (fdies slice-ty l₁₂) ∷ []
+          ∷ ‵ (fdies R′.mir l₀) ∷ ‵ (fdies records-ty l₁) ∷ ‵ (fdies word l₂) ∷ ‵ (fdies P′.mir l₃) ∷ ‵ (fdies word lm) ∷ ‵ (fdies array-ty l₄) ∷ ‵ (fdies P′.mir l₅) ∷ ‵ (fdies P′.mir l₆) ∷ ‵ (fdies tyBool l₇)
+          ∷ ‵ (fdies lent-ty l₈) ∷ ‵ (fdies slice-ty l₉) ∷ ‵ (fdies lent-ty l₁₀) ∷ ‵ (fdies slice-ty l₁₁) ∷ []
 
       -- the loop's invariant
       abbrev Inv : At → List (Item 𝓤)
-      Inv t = ‵ (row u32 fullShare (t .acc .1) l₄ 0) ∷ ‵ (fat fullShare P′.mir l₅ 0 (pass-val (t .acc .0))) ∷ ‵ (fat fullShare word l₆ 0 (vint w64 (t .at)))
-          ∷ ‵ (froom P′.mir l₇ 0) ∷ ‵ (froom tyBool l₈ 0) ∷ ‵ (froom lent-ty l₉ 0) ∷ ‵ (froom slice-ty l₁₀ 0) ∷ ‵ (froom lent-ty l₁₁ 0) ∷ ‵ (froom slice-ty l₁₂ 0) ∷ ‵ (flft κ q) ∷ Records ∷ Frame
-
-      abbrev μ : At → ℕ
-      μ t = 5 - t .at
+      Inv t = ‵ (row u32 fullShare (t .acc .1) l₄ 0) ∷ ‵ (fat fullShare P′.mir l₅ 0 (pass-val (t .acc .0)))
+          ∷ ‵ (froom P′.mir l₆ 0) ∷ ‵ (froom tyBool l₇ 0) ∷ ‵ (froom lent-ty l₈ 0) ∷ ‵ (froom slice-ty l₉ 0) ∷ ‵ (froom lent-ty l₁₀ 0) ∷ ‵ (froom slice-ty l₁₁ 0) ∷ ‵ (flft κ q) ∷ Records ∷ Frame
 
       -- when the loop is left, the rest of the body runs
       abbrev Left : Post 𝓤 H
-      Left = anyQ (afterBlock 𝓤 H (afterSeq 𝓤 H (Wp 𝓤 H (𝓣 .C) (𝓣 .Λ) En code-mir.t-5 (atReturn 𝓤 H En Post′)) (atReturn 𝓤 H En Post′)))
+      Left = anyQ (afterBlock 𝓤 H (afterSeq 𝓤 H (Wp 𝓤 H (𝓣 .C) (𝓣 .Λ) En code-mir.t-4 (atReturn 𝓤 H En Post′)) (atReturn 𝓤 H En Post′)))
 
       abbrev Turned : At → Post 𝓤 H
       Turned t = anyQ (afterTurn 𝓤 H (Below 𝓤 H A (Less μ) Inv t) (post 𝓤 H Left))
@@ -266,79 +275,59 @@ module _ {M : Type 1} (𝓤 : URA M) (H : Heap 𝓤) (A : Atoms 𝓤) (W : Given
       roomy : (l : List ℕ) → length l ≡ size → Room u32 (length l)
       roomy l e = subst (Room u32) (sym e) (lit< tt, lit< tt)
 
-      goes-on : (t : At) → ltb (t .at) 5 ≡ true → Turns t
+      goes-on : (t : At) → t .acc .0 .on ≡ true → Turns t
       unfolding afterTurn
-      goes-on t e =
-          assigns ! (bin ! (load ! (from ! (stop !)) (look ! 2 refl)) (lit ! tt) tt) (from ! (stop !)) (init ! 4 refl (tt, tt)) $
-          rewrite ! 4 (λ (u : Bool). ‵ (fat fullShare tyBool l₈ 0 (vbool u))) e refl $ stays ! (load ! (from ! (stop !)) (look ! 4 refl)) $
+      goes-on t on =
+          assigns ! (of-opd ! (load ! (from ! (fld ! refl (stop !))) (look-in ! 1 (sub ! 0 refl (whole !))))) (from ! (stop !)) (init ! 3 refl (tt, tt)) $
+          rewrite ! 3 (λ (u : Bool). ‵ (fat fullShare tyBool l₇ 0 (vbool u))) on refl $ stays ! (load ! (from ! (stop !)) (look ! 3 refl)) $
           -- the counts are lent to `pass`
-          assigns ! (addr ! (from ! (stop !))) (from ! (stop !)) (init ! 5 refl (tt, tt)) $
-          assigns ! (agg ! (and-then ! (load ! (from ! (stop !)) (look ! 5 refl)) (and-then ! (big-lit ! (record { fits = lit< tt })) (no-more !)))) (from ! (stop !)) (init ! 6 refl (tt, (tt, (record { fits = lit< tt }, tt)))) $
-          rewrite ! 6 (λ (k : ℕ). ‵ (fat fullShare slice-ty l₁₀ 0 (sliceVal (l₄, 0) k))) (sym (t .real .1)) refl $
+          assigns ! (addr ! (from ! (stop !))) (from ! (stop !)) (init ! 4 refl (tt, tt)) $
+          assigns ! (agg ! (and-then ! (load ! (from ! (stop !)) (look ! 4 refl)) (and-then ! (big-lit ! (record { fits = lit< tt })) (no-more !)))) (from ! (stop !)) (init ! 5 refl (tt, (tt, (record { fits = lit< tt }, tt)))) $
+          rewrite ! 5 (λ (k : ℕ). ‵ (fat fullShare slice-ty l₉ 0 (sliceVal (l₄, 0) k))) (sym (t .real .1)) refl $
           lends ! tt u32 (named 1) (t .acc .1) l₄ 0 (roomy (t .acc .1) (t .real .1)) (λ α δ.
-          move ! (0 ∷ 1 ∷ 11 ∷ 12 ∷ []) $ group ! 4 $ use1 W (raw (PassC 𝓤 H A mem run .pre (to-pass l₄ α δ (t .acc))) ⊛ Records) (asked-pass l₄ α δ (t .acc) (t .real .0) (may .counts)) $ split ! $
-          calls-at ! fm (PassC 𝓤 H A mem run) (known .passes) (to-pass l₄ α δ (t .acc)) (and-then ! (load ! (from ! (stop !)) (look ! 11 refl)) (and-then ! (load ! (from ! (stop !)) (look ! 12 refl)) (and-then ! (load ! (from ! (stop !)) (look ! 3 refl)) (and-then ! (load ! (from ! (stop !)) (look ! 8 refl)) (no-more !))))) (λ w.
+          move ! (0 ∷ 1 ∷ 10 ∷ 11 ∷ []) $ group ! 4 $ use1 W (raw (PassC 𝓤 H A mem run .pre (to-pass l₄ α δ (t .acc))) ⊛ Records) (asked-pass l₄ α δ (t .acc) (t .real .0) (counts-asked t on)) $ split ! $
+          calls-at ! fm (PassC 𝓤 H A mem run) (known .passes) (to-pass l₄ α δ (t .acc)) (and-then ! (load ! (from ! (stop !)) (look ! 10 refl)) (and-then ! (load ! (from ! (stop !)) (look ! 11 refl)) (and-then ! (load ! (from ! (stop !)) (look ! 3 refl)) (and-then ! (load ! (from ! (stop !)) (look ! 7 refl)) (no-more !))))) (λ w.
           answers ! tt pass.ended (pass.clauses 𝓤 H A mem run) (to-pass l₄ α δ (t .acc)) w (λ r ws. Passes ss (t .acc .0) (t .acc .1) (ws .1 .1 .1 .0) r) (λ r ws. id⊢ 𝓤 _) (λ r₁ ws₁ e₁ is₁.
           use1 W (‵ (flft κ q) ⊛ (‵ (flft (α ∷ []) fullShare) ⊛ ‵ ftrue)) (id⊢ 𝓤 _) $ split ! $ move ! (1 ∷ []) $ split ! $
           move ! (3 ∷ []) $ fsplit ! $ drop ! $ fsplit ! $ drop ! $ fsplit ! $ drop ! $ fsplit ! $ fsplit ! $ move ! (1 ∷ []) $ feqL ! (λ len₁.
           move ! (2 ∷ 6 ∷ 0 ∷ []) $ ends-loan ! tt u32 (ws₁ .1 .1 .1 .0) (length (t .acc .1)) l₄ 0 α δ $
-          land ! (from ! (stop !)) (init ! 7 refl (LL.lawful P.the-type P′.the-laws 𝓤 H A W .typed r₁ _ is₁ .0)) $
-          rewrite ! 7 (λ (v : Val). ‵ (fat fullShare P′.mir l₇ 0 v)) (ap only (LL.tells P.the-type P′.the-laws r₁ _ is₁)) refl $
+          land ! (from ! (stop !)) (init ! 6 refl (LL.lawful P.the-type P′.the-laws 𝓤 H A W .typed r₁ _ is₁ .0)) $
+          rewrite ! 6 (λ (v : Val). ‵ (fat fullShare P′.mir l₆ 0 v)) (ap only (LL.tells P.the-type P′.the-laws r₁ _ is₁)) refl $
           -- [the counts; true; true; the token; the records; _5; …]: the counts are lent to the choice of a digit
-          assigns ! (addr ! (from ! (stop !))) (from ! (stop !)) (init ! 11 refl (tt, tt)) $
-          assigns ! (agg ! (and-then ! (load ! (from ! (stop !)) (look ! 11 refl)) (and-then ! (big-lit ! (record { fits = lit< tt })) (no-more !)))) (from ! (stop !)) (init ! 12 refl (tt, (tt, (record { fits = lit< tt }, tt)))) $
-          rewrite ! 12 (λ (k : ℕ). ‵ (fat fullShare slice-ty l₁₂ 0 (sliceVal (l₄, 0) k))) (sym (len₁ ∙ t .real .1)) refl $
+          assigns ! (addr ! (from ! (stop !))) (from ! (stop !)) (init ! 10 refl (tt, tt)) $
+          assigns ! (agg ! (and-then ! (load ! (from ! (stop !)) (look ! 10 refl)) (and-then ! (big-lit ! (record { fits = lit< tt })) (no-more !)))) (from ! (stop !)) (init ! 11 refl (tt, (tt, (record { fits = lit< tt }, tt)))) $
+          rewrite ! 11 (λ (k : ℕ). ‵ (fat fullShare slice-ty l₁₁ 0 (sliceVal (l₄, 0) k))) (sym (len₁ ∙ t .real .1)) refl $
           lends ! tt u32 (named 0) (ws₁ .1 .1 .1 .0) l₄ 0 (roomy (ws₁ .1 .1 .1 .0) (len₁ ∙ t .real .1)) (λ β ε.
-          use2 W (raw (NarrowC 𝓤 H A mem run .pre (to-narrow l₄ β ε (r₁, ws₁ .1 .1 .1 .0)))) (asked-narrow l₄ β ε (r₁, ws₁ .1 .1 .1 .0) (subst (Is P.the-row r₁) (LL.tells P.the-type P′.the-laws r₁ _ is₁) is₁) (subst (λ (u : Both). Narrowable (u .0) (u .1)) (sym (passes-is ss (t .acc) r₁ (ws₁ .1 .1 .1 .0) e₁)) (may .narrows))) $
-          calls-at ! fm (NarrowC 𝓤 H A mem run) (known .narrows) (to-narrow l₄ β ε (r₁, ws₁ .1 .1 .1 .0)) (and-then ! (load ! (from ! (stop !)) (look ! 8 refl)) (and-then ! (load ! (from ! (stop !)) (look ! 13 refl)) (no-more !))) (λ w₂.
+          use2 W (raw (NarrowC 𝓤 H A mem run .pre (to-narrow l₄ β ε (r₁, ws₁ .1 .1 .1 .0)))) (asked-narrow l₄ β ε (r₁, ws₁ .1 .1 .1 .0) (subst (Is P.the-row r₁) (LL.tells P.the-type P′.the-laws r₁ _ is₁) is₁) (subst (λ (u : Both). Narrowable (u .0) (u .1)) (sym (passes-is ss (t .acc) r₁ (ws₁ .1 .1 .1 .0) e₁)) (narrow-asked t on))) $
+          calls-at-last ! fm (NarrowC 𝓤 H A mem run) (known .narrows) (to-narrow l₄ β ε (r₁, ws₁ .1 .1 .1 .0)) (and-then ! (load ! (from ! (stop !)) (look ! 7 refl)) (and-then ! (load ! (from ! (stop !)) (look ! 12 refl)) (no-more !))) (λ w₂.
           answers ! tt narrow.ended (narrow.clauses 𝓤 H A mem run) (to-narrow l₄ β ε (r₁, ws₁ .1 .1 .1 .0)) w₂ (λ r ws. Narrows r₁ (ws₁ .1 .1 .1 .0) (ws .1 .0) r) (λ r ws. id⊢ 𝓤 _) (λ r₂ ws₂ e₂ is₂.
           use1 W (‵ (flft (β ∷ []) fullShare) ⊛ ‵ ftrue) (id⊢ 𝓤 _) $ split ! $ move ! (2 ∷ []) $ fsplit ! $ drop ! $ fsplit ! $ fsplit ! $ move ! (1 ∷ []) $ feqL ! (λ len₂.
           move ! (2 ∷ 4 ∷ 0 ∷ []) $ ends-loan ! tt u32 (ws₂ .1 .0) (length (ws₁ .1 .1 .1 .0)) l₄ 0 β ε $
-          land ! (from ! (stop !)) (store ! 7 refl (LL.lawful P.the-type P′.the-laws 𝓤 H A W .typed r₂ _ is₂ .0)) $
+          land-last ! (from ! (stop !)) (store ! 7 refl (LL.lawful P.the-type P′.the-laws 𝓤 H A W .typed r₂ _ is₂ .0)) $
           rewrite ! 7 (λ (v : Val). ‵ (fat fullShare P′.mir l₅ 0 v)) (ap only (LL.tells P.the-type P′.the-laws r₂ _ is₂)) refl $
-          assigns-last ! (bin ! (load ! (from ! (stop !)) (look ! 8 refl)) (lit ! tt) (record { fits = next-fits })) (from ! (stop !)) (store ! 8 refl (tt, record { fits = next-fits })) $
-          rewrite ! 8 (λ (k : ℕ). ‵ (fat fullShare word l₆ 0 (vint w64 k))) (one-more (t .at)) refl $
-          forget ! 9 refl $ forget ! 10 refl $ forget ! 11 refl $ forget ! 12 refl $ forget ! 13 refl $ forget ! 14 refl $
-          move ! (1 ∷ 2 ∷ 3 ∷ 4 ∷ 0 ∷ 7 ∷ 8 ∷ 9 ∷ 10 ∷ 11 ∷ 12 ∷ 13 ∷ 14 ∷ 5 ∷ 6 ∷ []) $ drop ! $ drop ! $ drop ! $ drop ! $
-          next-turn ! μ Inv t (L.after _ _ _ t below (r₂, ws₂ .1 .0) (onward-is ss (t .acc) r₁ (ws₁ .1 .1 .1 .0) e₁ r₂ (ws₂ .1 .0) e₂ ∙ ap (onward ss) (t .is)) (subst (Is P.the-row r₂) (LL.tells P.the-type P′.the-laws r₂ _ is₂) is₂, len₂ ∙ len₁ ∙ t .real .1)) (L.less _ _ _ t below)))))))))
-        where
-          below : t .at < 5
-          below = ltb→lt (t .at) 5 (subst T (sym e) tt)
+          forget ! 8 refl $ forget ! 9 refl $ forget ! 10 refl $ forget ! 11 refl $ forget ! 12 refl $ forget ! 13 refl $
+          move ! (1 ∷ 2 ∷ 3 ∷ 4 ∷ 0 ∷ 7 ∷ 8 ∷ 9 ∷ 10 ∷ 11 ∷ 12 ∷ 13 ∷ 5 ∷ 6 ∷ []) $ drop ! $ drop ! $ drop ! $ drop ! $
+          next-turn ! μ Inv t (after t on (r₂, ws₂ .1 .0) (onward-is ss (t .acc) r₁ (ws₁ .1 .1 .1 .0) e₁ r₂ (ws₂ .1 .0) e₂) (subst (Is P.the-row r₂) (LL.tells P.the-type P′.the-laws r₂ _ is₂) is₂, len₂ ∙ len₁ ∙ t .real .1)) (less-after t on (r₂, ws₂ .1 .0) (onward-is ss (t .acc) r₁ (ws₁ .1 .1 .1 .0) e₁ r₂ (ws₂ .1 .0) e₂))))))))))
 
-          may : Round ss (t .acc)
-          may = subst (Round ss) (sym (t .is)) (round-of ss p selects (t .at) below)
-
-          next-fits : t .at + 1 < 2 ^ 64
-          next-fits = omega (arith, below)
-
-      leaves : (t : At) → ltb (t .at) 5 ≡ false → Turns t
+      leaves : (t : At) → t .acc .0 .on ≡ false → Turns t
       unfolding afterTurn
-      leaves t e =
-          assigns ! (bin ! (load ! (from ! (stop !)) (look ! 2 refl)) (lit ! tt) tt) (from ! (stop !)) (init ! 4 refl (tt, tt)) $
-          rewrite ! 4 (λ (u : Bool). ‵ (fat fullShare tyBool l₈ 0 (vbool u))) e refl $ leaves-loop ! (load ! (from ! (stop !)) (look ! 4 refl)) $ exec ! (𝓣 .C) (𝓣 .Λ) En code-mir.t-5 (atRet En Post′) $
-          use0 W (raw (FoundC 𝓤 H A mem run .pre (to-found (t .acc .0)))) (asked-found (t .acc .0) m-fits number (t .real .0)) $
-          calls-at ! fm (FoundC 𝓤 H A mem run) (known .founds) (to-found (t .acc .0)) (and-then ! (load ! (from ! (stop !)) (look ! 2 refl)) (and-then ! (load ! (from ! (stop !)) (look ! 15 refl)) (no-more !))) (λ w.
+      leaves t off =
+          assigns ! (of-opd ! (load ! (from ! (fld ! refl (stop !))) (look-in ! 1 (sub ! 0 refl (whole !))))) (from ! (stop !)) (init ! 3 refl (tt, tt)) $
+          rewrite ! 3 (λ (u : Bool). ‵ (fat fullShare tyBool l₇ 0 (vbool u))) off refl $ leaves-loop ! (load ! (from ! (stop !)) (look ! 3 refl)) $ exec ! (𝓣 .C) (𝓣 .Λ) En code-mir.t-4 (atRet En Post′) $
+          use0 W (raw (FoundC 𝓤 H A mem run .pre (to-found (t .acc .0)))) (asked-found (t .acc .0) m-fits (passes-number ss (t .acc .0) (t .known) (selects .widths) off) (t .real .0)) $
+          calls-at ! fm (FoundC 𝓤 H A mem run) (known .founds) (to-found (t .acc .0)) (and-then ! (load ! (from ! (stop !)) (look ! 2 refl)) (and-then ! (load ! (from ! (stop !)) (look ! 14 refl)) (no-more !))) (λ w.
           answers ! tt found.ended (found.clauses 𝓤 H A mem run) (to-found (t .acc .0)) w (λ r _. r ≡ Length (answered (t .acc .0) m)) (λ r _. id⊢ 𝓤 _) (λ r _ e′ is.
-          land ! (from ! (stop !)) (init ! 17 refl (EL.lawful R.the-type R′.the-laws 𝓤 H A W tt .typed r _ is .0)) $
+          land ! (from ! (stop !)) (init ! 16 refl (EL.lawful R.the-type R′.the-laws 𝓤 H A W tt .typed r _ is .0)) $
           move ! (2 ∷ []) $ row-room ! w32 size l₄ (t .acc .1) (t .real .1) $
-          -- [_5; emp; true; _6; …; _13; the token; the records; _1; _2; _3; _4; _0; and that each local dies]
-          returns ! (look ! 17 refl) $ forget ! 3 refl $ forget ! 4 refl $ forget ! 6 refl $ forget ! 13 refl $ forget ! 14 refl $ forget ! 15 refl $ forget ! 16 refl $ forget ! 17 refl $
-          keep ! (17 ∷ 18 ∷ 13 ∷ 19 ∷ 14 ∷ 20 ∷ 15 ∷ 21 ∷ 16 ∷ 22 ∷ 0 ∷ 23 ∷ 3 ∷ 24 ∷ 4 ∷ 25 ∷ 5 ∷ 26 ∷ 6 ∷ 27 ∷ 7 ∷ 28 ∷ 8 ∷ 29 ∷ 9 ∷ 30 ∷ 10 ∷ 31 ∷ 11 ∷ []) $
-          free1 ! $ free1 ! $ free1 ! $ free1 ! $ free1 ! $ free1 ! $ free1 ! $ free1 ! $ free1 ! $ free1 ! $ free1 ! $ free1 ! $ free1 ! $ free1 ! $ free0 ! $ by ! (exits r w is (e′ ∙ the-end))))
-        where
-          last : t .acc ≡ state ss 5
-          last = L.all-taken _ _ _ t (nltb→le (t .at) 5 (subst (λ (u : Bool). T (not u)) (sym e) tt))
-
-          number : T (not (nanBits binary64 (t .acc .0 .prefix)))
-          number = subst (λ (u : Both). T (not (nanBits binary64 (u .0 .prefix)))) (sym last) (five-passes-number ss (strongest ss) (selects .widths))
-
-          the-end : Length (answered (t .acc .0) m) ≡ Length (lengthOf ss m)
-          the-end = ap (λ (u : Both). Length (answered (u .0) m)) last ∙ ap Length (five-passes-length ss m (selects .widths))
+          -- [_5; emp; true; _6; …; _12; the token; the records; _1; _2; _3; _4; _0; and that each local dies]
+          returns ! (look ! 16 refl) $ forget ! 3 refl $ forget ! 5 refl $ forget ! 12 refl $ forget ! 13 refl $ forget ! 14 refl $ forget ! 15 refl $ forget ! 16 refl $
+          keep ! (16 ∷ 17 ∷ 12 ∷ 18 ∷ 13 ∷ 19 ∷ 14 ∷ 20 ∷ 15 ∷ 21 ∷ 0 ∷ 22 ∷ 3 ∷ 23 ∷ 4 ∷ 24 ∷ 5 ∷ 25 ∷ 6 ∷ 26 ∷ 7 ∷ 27 ∷ 8 ∷ 28 ∷ 9 ∷ 29 ∷ 10 ∷ []) $
+          free1 ! $ free1 ! $ free1 ! $ free1 ! $ free1 ! $ free1 ! $ free1 ! $ free1 ! $ free1 ! $ free1 ! $ free1 ! $ free1 ! $ free1 ! $ free0 ! $ by ! (exits r w is (e′ ∙ ap Length (passes-length ss (t .acc .0) m (t .known) (selects .widths) off)))))
 
       loops : (t : At) → Seq (Go {0}) W (Inv t) (runs (𝓣 .C) (𝓣 .Λ) En (loop code-mir.turn-1) Left)
-      loops = state-loop ! 𝓣 μ Inv (λ t. by-test (λ u. ltb (t .at) 5 ≡ u → Turns t) (ltb (t .at) 5) (λ _ e. goes-on t e) (λ _ e. leaves t e) refl)
+      loops = state-loop ! 𝓣 μ Inv (λ t. by-test (λ u. t .acc .0 .on ≡ u → Turns t) (t .acc .0 .on) (λ _ e. goes-on t e) (λ _ e. leaves t e) refl)
 
-      from-loop : (t : At) → Seq (Go {0}) W (Inv t) (runs (𝓣 .C) (𝓣 .Λ) En code-mir.t-4 (atRet En Post′))
+      from-loop : (t : At) → Seq (Go {0}) W (Inv t) (runs (𝓣 .C) (𝓣 .Λ) En code-mir.t-3 (atRet En Post′))
       from-loop t = first ! $ blocks ! $ loops t
 
     -- the MIR up to the loop
@@ -347,15 +336,15 @@ module _ {M : Type 1} (𝓤 : URA M) (H : Heap 𝓤) (A : Atoms 𝓤) (W : Given
     walk 𝓣 known is-p =
         qed W ((‵ (flft κ q) ⊛ ‵ ftrue) ∷ ‵ (owns (ShrSlice (named 0) κ S.the-row ∷ usize ∷ P.the-row ∷ usize ∷ []) a vals) ∷ []) ∵
         enter ! (𝓣 .C) (𝓣 .Λ) code.function (records-val ∷ vint w64 n ∷ pass-val p ∷ vint w64 m ∷ []) _ $
-        alloc1 ! (λ l₀. alloc1 ! (λ l₁. alloc1 ! (λ l₂. alloc1 ! (λ l₃. alloc1 ! (λ lm. alloc1 ! (λ l₄. alloc1 ! (λ l₅. alloc1 ! (λ l₆. alloc1 ! (λ l₇. alloc1 ! (λ l₈. alloc1 ! (λ l₉. alloc1 ! (λ l₁₀. alloc1 ! (λ l₁₁. alloc1 ! (λ l₁₂. alloc0 ! $ params1 ! $
-        pass1 ! (init ! 24 refl (tt, (tt, (record { fits = room .0 }, tt)))) $ pass1 ! (init ! 22 refl (tt, record { fits = n-fits })) $ pass1 ! (init ! 20 refl (LL.lawful P.the-type P′.the-laws 𝓤 H A W .typed p _ is-p .0)) $ pass1 ! (init ! 18 refl (tt, record { fits = m-fits })) $ pass0 ! $
-        assigns ! (rep ! size (lit ! tt)) (from ! (stop !)) (init ! 16 refl (array-typed 𝓤 H A W w32 size 0 (lit< tt))) $
-        assigns ! (of-opd ! (load ! (from ! (stop !)) (look ! 20 refl))) (from ! (stop !)) (init ! 14 refl (LL.lawful P.the-type P′.the-laws 𝓤 H A W .typed p _ is-p .0)) $
-        assigns ! (of-opd ! (lit ! tt)) (from ! (stop !)) (init ! 12 refl (tt, record { fits = lit< tt })) $
-        move ! (16 ∷ []) $ array-row ! w32 size 0 l₄ (lit< tt) $ move ! (29 ∷ []) $ fsplit ! $ move ! (30 ∷ []) $ split ! $
-        -- [the token; true; the records; what the others own; the counts; _13; …; _6; …; that _5 dies; _4; …; _0; …]
-        keep ! (4 ∷ 19 ∷ 17 ∷ 15 ∷ 13 ∷ 11 ∷ 9 ∷ 7 ∷ 5 ∷ 0 ∷ 2 ∷ 28 ∷ 26 ∷ 24 ∷ 22 ∷ 30 ∷ 31 ∷ 29 ∷ 27 ∷ 25 ∷ 23 ∷ 21 ∷ 20 ∷ 18 ∷ 16 ∷ 14 ∷ 12 ∷ 10 ∷ 8 ∷ 6 ∷ []) $
-        from-loop 𝓣 known l₀ l₁ l₂ l₃ lm l₄ l₅ l₆ l₇ l₈ l₉ l₁₀ l₁₁ l₁₂ (L.starts (state ss) Real 5 (p, replicate size 0) (begins ss p (selects .starts)) (is-p, length-replicate {A = ℕ} size 0))))))))))))))))
+        alloc1 ! (λ l₀. alloc1 ! (λ l₁. alloc1 ! (λ l₂. alloc1 ! (λ l₃. alloc1 ! (λ lm. alloc1 ! (λ l₄. alloc1 ! (λ l₅. alloc1 ! (λ l₆. alloc1 ! (λ l₇. alloc1 ! (λ l₈. alloc1 ! (λ l₉. alloc1 ! (λ l₁₀. alloc1 ! (λ l₁₁. alloc0 ! $ params1 ! $
+        pass1 ! (init ! 22 refl (tt, (tt, (record { fits = room .0 }, tt)))) $ pass1 ! (init ! 20 refl (tt, record { fits = n-fits })) $ pass1 ! (init ! 18 refl (LL.lawful P.the-type P′.the-laws 𝓤 H A W .typed p _ is-p .0)) $ pass1 ! (init ! 16 refl (tt, record { fits = m-fits })) $ pass0 ! $
+        assigns ! (rep ! size (lit ! tt)) (from ! (stop !)) (init ! 14 refl (array-typed 𝓤 H A W w32 size 0 (lit< tt))) $
+        assigns ! (of-opd ! (load ! (from ! (stop !)) (look ! 18 refl))) (from ! (stop !)) (init ! 12 refl (LL.lawful P.the-type P′.the-laws 𝓤 H A W .typed p _ is-p .0)) $
+        move ! (14 ∷ []) $ array-row ! w32 size 0 l₄ (lit< tt) $ move ! (27 ∷ []) $ fsplit ! $ move ! (28 ∷ []) $ split ! $
+        -- [the token; true; the records; what the others own; the counts; _12; …; _6; …; that _5 dies; _4; …; _0; …]
+        keep ! (4 ∷ 17 ∷ 15 ∷ 13 ∷ 11 ∷ 9 ∷ 7 ∷ 5 ∷ 0 ∷ 2 ∷ 26 ∷ 24 ∷ 22 ∷ 20 ∷ 28 ∷ 29 ∷ 27 ∷ 25 ∷ 23 ∷ 21 ∷ 19 ∷ 18 ∷ 16 ∷ 14 ∷ 12 ∷ 10 ∷ 8 ∷ 6 ∷ []) $
+        from-loop 𝓣 known l₀ l₁ l₂ l₃ lm l₄ l₅ l₆ l₇ l₈ l₉ l₁₀ l₁₁
+        (record { acc = (p, replicate size 0); real = (is-p, length-replicate {A = ℕ} size 0); none = no-counts; known = known-first ss p selects }))))))))))))))
 
 module _ {M : Type 1} (𝓤 : URA M) (H : Heap 𝓤) (A : Atoms 𝓤) (W : Given 𝓤 H A) (mem : Memory → SProp 𝓤) (run : Routine → Fun 𝓤) (𝓣 : Tables 𝓤 H) (known : Known 𝓤 H A mem run 𝓣) where
   select-walks : Walks 𝓤 H A f.ended stayed (WpFn 𝓤 H (𝓣 .C) (𝓣 .Λ) code.function) (f.clauses 𝓤 H A mem run)

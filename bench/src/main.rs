@@ -1,5 +1,6 @@
 //! ns per pixel (and iteration, where there are some) of the proved library and of the Rust original, and their ratio.
-//! Each row is the least of several rounds in which the two take turns. Buffers are warm and not cleared between runs.
+//! Each row is the least of several rounds in which the two take turns. Buffers are warm and not cleared between runs. Time is
+//! that of the thread, so that of other work on the machine only what it does to the caches counts.
 
 #[allow(dead_code)]
 #[path = "../../oracle/src/ffi.rs"]
@@ -14,7 +15,6 @@ use qr_lab_imgproc::deblur::{self, DirectionalUnsharpConfig, LineBorderMode, Van
 use qr_lab_imgproc::{blur, sharpen};
 use random::Random;
 use std::hint::black_box;
-use std::time::Instant;
 
 const SIDE: usize = 1024;
 const PIXELS: usize = SIDE * SIDE;
@@ -37,11 +37,30 @@ fn noise(random: &mut Random) -> Vec<u8> {
     (0..PIXELS).map(|_| random.below(256) as u8).collect()
 }
 
-/// The least time of one run, in ns.
-fn least(times: &mut [f64], run: &mut dyn FnMut(), round: usize) {
-    let start = Instant::now();
+#[repr(C)]
+struct Timespec {
+    seconds: i64,
+    nanoseconds: i64,
+}
+
+extern "C" {
+    fn clock_gettime(clock: i32, time: *mut Timespec) -> i32;
+}
+
+const CLOCK_THREAD_CPUTIME_ID: i32 = 3;
+
+/// How long this thread has run, in ns.
+fn thread_time() -> f64 {
+    let mut time = Timespec { seconds: 0, nanoseconds: 0 };
+    unsafe { clock_gettime(CLOCK_THREAD_CPUTIME_ID, &mut time) };
+    time.seconds as f64 * 1e9 + time.nanoseconds as f64
+}
+
+/// The time of one run, in ns.
+fn timed(times: &mut [f64], run: &mut dyn FnMut(), round: usize) {
+    let start = thread_time();
     run();
-    times[round] = start.elapsed().as_nanos() as f64;
+    times[round] = thread_time() - start;
 }
 
 fn row(only: &str, name: &str, work: usize, mut ours: impl FnMut(), mut theirs: impl FnMut()) {
@@ -50,8 +69,8 @@ fn row(only: &str, name: &str, work: usize, mut ours: impl FnMut(), mut theirs: 
     }
     let (mut mine, mut other) = ([0.0; ROUNDS], [0.0; ROUNDS]);
     for round in 0..ROUNDS {
-        least(&mut mine, &mut ours, round);
-        least(&mut other, &mut theirs, round);
+        timed(&mut mine, &mut ours, round);
+        timed(&mut other, &mut theirs, round);
     }
     let best = |times: &[f64]| times.iter().copied().fold(f64::INFINITY, f64::min) / work as f64;
     let (mine, other) = (best(&mine), best(&other));

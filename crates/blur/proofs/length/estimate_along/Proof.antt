@@ -21,7 +21,7 @@ use ghost.Atoms.{Atoms}
 use contract.Monad.{Fun}
 use contract.Running.{givenOf, tables, tablesOf}
 use types.Kit.{Given, Item, ‵, raw, _⊛_, ⋆, Seq, Go, atRet, runs, _$_, _∵_, !, qed, by, move, keep, drop, group, use0, use1, use2, split, join, rewrite, fsplit, fjoin, feqL, suffices, frame, done}
-use types.Run.{look, init, forget, stop, hop, fld, from, load, lit, of-opd, bin, addr, and-then, no-more, assigns, first, branches, skips, land, returns, returns-within, enter, alloc1, alloc0, params1, pass1, pass0, free1, free0, exec}
+use types.Run.{look, init, stop, hop, fld, from, load, lit, of-opd, bin, addr, and-then, no-more, assigns, first, branches, skips, land, returns, returns-within, enter, alloc1, alloc0, params1, pass1, pass0, exec}
 use types.Part.{whole, sub, look-in, agg}
 use sound.WpLaws.{FmC, fmOf, WpFn-mono}
 use denote.RattleType.{owns}
@@ -74,6 +74,7 @@ use Rattle.blur.proofs.length.LengthAnswer.Laws as R′
 use Rattle.blur.proofs.Courses.{in-course}
 use Rattle.blur.proofs.Estimate.{estimated-refused, some-lent, all-lent, within-lent, numbers, selectable, estimated-length}
 use Rattle.blur.proofs.Walk.Call.{stating, answers}
+use Rattle.blur.proofs.Walk.Free.{frees-all}
 use Rattle.blur.proofs.Walk.Lend.{lends, ends-loan, shares-out, ends-share}
 use Rattle.blur.proofs.swings.fill as fill
 use Rattle.blur.proofs.swings.fill.Symbol as fill-def
@@ -310,9 +311,8 @@ module _ {M : Type 1} (𝓤 : URA M) (H : Heap 𝓤) (A : Atoms 𝓤) (W : Given
             calls-at ! fm (RefusedC 𝓤 H A mem run) (known .refuses) to-refused (and-then ! (load ! (from ! (fld ! refl (stop !))) (look-in ! 1 (sub ! 0 refl (whole !)))) (no-more !)) (λ v.
             answers ! tt refused.ended (refused.clauses 𝓤 H A mem run) to-refused v (λ r _. r ≡ Refused number) (λ r _. id⊢ 𝓤 _) (λ r _ e is. drop ! $ drop ! $
             land ! (from ! (stop !)) (init ! 7 refl (EL.lawful R.the-type R′.the-laws 𝓤 H A W tt .typed r _ is .0)) $
-            returns-within ! Post′ refl (look ! 7 refl) $ forget ! 0 refl $ forget ! 1 refl $ forget ! 7 refl $ forget ! 8 refl $ forget ! 9 refl $ forget ! 10 refl $ forget ! 11 refl $ forget ! 12 refl $ forget ! 13 refl $ forget ! 14 refl $ forget ! 15 refl $ forget ! 17 refl $ forget ! 18 refl $
-            keep ! (7 ∷ 25 ∷ 8 ∷ 26 ∷ 9 ∷ 27 ∷ 10 ∷ 28 ∷ 11 ∷ 29 ∷ 12 ∷ 30 ∷ 13 ∷ 31 ∷ 14 ∷ 32 ∷ 15 ∷ 33 ∷ 0 ∷ 34 ∷ 16 ∷ 35 ∷ 17 ∷ 36 ∷ 18 ∷ 37 ∷ 1 ∷ 38 ∷ 19 ∷ 39 ∷ 20 ∷ 40 ∷ 21 ∷ 41 ∷ 22 ∷ 42 ∷ 23 ∷ 43 ∷ 24 ∷ 44 ∷ 4 ∷ 5 ∷ 6 ∷ 2 ∷ []) $
-            free1 ! $ free1 ! $ free1 ! $ free1 ! $ free1 ! $ free1 ! $ free1 ! $ free1 ! $ free1 ! $ free1 ! $ free1 ! $ free1 ! $ free1 ! $ free1 ! $ free1 ! $ free1 ! $ free1 ! $ free1 ! $ free1 ! $ free1 ! $ free0 ! $ by ! (exits r v ys refl is (estimated-refused xs w h s d m t ys n r e))))) (λ z. absurd z)
+            returns-within ! Post′ refl (look ! 7 refl) $ keep ! (7 ∷ 25 ∷ 8 ∷ 26 ∷ 9 ∷ 27 ∷ 10 ∷ 28 ∷ 11 ∷ 29 ∷ 12 ∷ 30 ∷ 13 ∷ 31 ∷ 14 ∷ 32 ∷ 15 ∷ 33 ∷ 0 ∷ 34 ∷ 16 ∷ 35 ∷ 17 ∷ 36 ∷ 18 ∷ 37 ∷ 1 ∷ 38 ∷ 19 ∷ 39 ∷ 20 ∷ 40 ∷ 21 ∷ 41 ∷ 22 ∷ 42 ∷ 23 ∷ 43 ∷ 24 ∷ 44 ∷ 4 ∷ 5 ∷ 6 ∷ 2 ∷ []) $
+            frees-all ! (false ∷ false ∷ false ∷ false ∷ false ∷ false ∷ false ∷ false ∷ false ∷ false ∷ true ∷ false ∷ false ∷ false ∷ true ∷ true ∷ true ∷ true ∷ true ∷ true ∷ []) _ _ $ by ! (exits r v ys refl is (estimated-refused xs w h s d m t ys n r e))))) (λ z. absurd z)
 
         -- no refusal
         goes-on : number ≡ 0 → Seq (Go {0}) W (Here false) (runs (𝓣 .C) (𝓣 .Λ) En code-mir.t-6 (atRet En Post′))
@@ -352,9 +352,8 @@ module _ {M : Type 1} (𝓤 : URA M) (H : Heap 𝓤) (A : Atoms 𝓤) (W : Given
             -- [the row; true; true; true; true; the token; the bytes; the open borrow; obs; auth; _9; _13; _0; …]
             land ! (from ! (stop !)) (init ! 12 refl (EL.lawful R.the-type R′.the-laws 𝓤 H A W tt .typed r₃ _ is₃ .0)) $
             move ! (0 ∷ 7 ∷ 8 ∷ 9 ∷ []) $ closes-slice ! tt S.the-row ys (ws₁ .1 .1 .1 .0) same b o $
-            returns ! (look ! 11 refl) $ forget ! 9 refl $ forget ! 10 refl $ forget ! 11 refl $ forget ! 12 refl $ forget ! 13 refl $ forget ! 14 refl $ forget ! 15 refl $ forget ! 16 refl $ forget ! 17 refl $ forget ! 18 refl $ forget ! 19 refl $ forget ! 20 refl $ forget ! 21 refl $ forget ! 22 refl $ forget ! 23 refl $ forget ! 24 refl $ forget ! 25 refl $ forget ! 26 refl $ forget ! 27 refl $ forget ! 28 refl $
-            keep ! (11 ∷ 29 ∷ 12 ∷ 30 ∷ 13 ∷ 31 ∷ 14 ∷ 32 ∷ 15 ∷ 33 ∷ 16 ∷ 34 ∷ 17 ∷ 35 ∷ 18 ∷ 36 ∷ 19 ∷ 37 ∷ 9 ∷ 38 ∷ 20 ∷ 39 ∷ 21 ∷ 40 ∷ 22 ∷ 41 ∷ 10 ∷ 42 ∷ 23 ∷ 43 ∷ 24 ∷ 44 ∷ 25 ∷ 45 ∷ 26 ∷ 46 ∷ 27 ∷ 47 ∷ 28 ∷ 48 ∷ 0 ∷ 1 ∷ 2 ∷ 7 ∷ []) $
-            free1 ! $ free1 ! $ free1 ! $ free1 ! $ free1 ! $ free1 ! $ free1 ! $ free1 ! $ free1 ! $ free1 ! $ free1 ! $ free1 ! $ free1 ! $ free1 ! $ free1 ! $ free1 ! $ free1 ! $ free1 ! $ free1 ! $ free1 ! $ free0 ! $ by ! (exits r₃ v₃ (ws₁ .1 .1 .1 .0) same is₃ (estimated-length xs w h s d m t ys e r₁ (ws₁ .1 .1 .1 .0) e₁ r₃ e₃)))))))))))))
+            returns ! (look ! 11 refl) $ keep ! (11 ∷ 29 ∷ 12 ∷ 30 ∷ 13 ∷ 31 ∷ 14 ∷ 32 ∷ 15 ∷ 33 ∷ 16 ∷ 34 ∷ 17 ∷ 35 ∷ 18 ∷ 36 ∷ 19 ∷ 37 ∷ 9 ∷ 38 ∷ 20 ∷ 39 ∷ 21 ∷ 40 ∷ 22 ∷ 41 ∷ 10 ∷ 42 ∷ 23 ∷ 43 ∷ 24 ∷ 44 ∷ 25 ∷ 45 ∷ 26 ∷ 46 ∷ 27 ∷ 47 ∷ 28 ∷ 48 ∷ 0 ∷ 1 ∷ 2 ∷ 7 ∷ []) $
+            frees-all ! [] _ _ $ by ! (exits r₃ v₃ (ws₁ .1 .1 .1 .0) same is₃ (estimated-length xs w h s d m t ys e r₁ (ws₁ .1 .1 .1 .0) e₁ r₃ e₃)))))))))))))
 
         accepts : number ≡ 0 → Seq (Go {0}) W (Here false) (runs (𝓣 .C) (𝓣 .Λ) En code-mir.t-5 (atRet En Post′))
         unfolding afterSeq

@@ -19,7 +19,7 @@ use ghost.Atoms.{Atoms}
 use contract.Monad.{Fun}
 use contract.Running.{givenOf, tables, tablesOf}
 use types.Kit.{Given, Item, ‵, raw, _⊛_, ⋆, Seq, Go, Post, anyQ, atRet, post, runs, _$_, _∵_, !, qed, by, move, keep, drop, use1, use2, split, join, rewrite, fsplit, fjoin, suffices, frame, done}
-use types.Run.{Below, look, init, store, store-raw, forget, stop, hop, fld, from, load, lit, of-opd, bin, and-then, no-more, assigns, first, blocks, stays, leaves-loop, land-last, returns, enter, alloc1, alloc0, params1, pass1, pass0, free1, free0, exec}
+use types.Run.{Below, look, init, store, store-raw, forget, stop, hop, fld, from, load, lit, of-opd, bin, and-then, no-more, assigns, first, blocks, stays, leaves-loop, land-last, returns, enter, alloc1, alloc0, params1, pass1, pass0, exec}
 use types.Part.{whole, sub, look-in}
 use sound.WpLaws.{FmC, fmOf, WpFn-mono}
 use denote.RattleType.{owns}
@@ -58,6 +58,7 @@ use Rattle.blur.proofs.scan.Scanned.Laws as O′
 use Rattle.blur.proofs.Filling as L
 use Rattle.blur.proofs.Walk.Loop.{by-test, Less, state-loop, next-turn}
 use Rattle.blur.proofs.Walk.Call.{stating, answers}
+use Rattle.blur.proofs.Walk.Free.{frees-all}
 use Rattle.blur.proofs.scan.next as next
 use Rattle.blur.proofs.scan.next.Symbol as next-def
 use Rattle.blur.proofs.scan.next.Symbol.{name as #next}
@@ -241,9 +242,8 @@ module _ {M : Type 1} (𝓤 : URA M) (H : Heap 𝓤) (A : Atoms 𝓤) (W : Given
             assigns ! (of-opd ! (load ! (from ! (fld ! refl (stop !))) (look-in ! 1 (sub ! 3 refl (whole !))))) (from ! (stop !)) (init ! 11 refl (LL.lawful N.the-type N′.the-laws 𝓤 H A W .typed (t .out .next) _ (is-next t) .0)) $
             move ! (0 ∷ 12 ∷ 13 ∷ 14 ∷ []) $ closes-slice ! tt S.the-row ys (t .list) (t .same) b o $
             -- [obs; the borrow; its token; _5; _6; _7; _8; the bytes' token; the bytes; _1; _2; _3; _4; _0; and that each local dies]
-            returns ! (look ! 13 refl) $ forget ! 3 refl $ forget ! 4 refl $ forget ! 9 refl $ forget ! 10 refl $ forget ! 11 refl $ forget ! 12 refl $ forget ! 13 refl $
-            keep ! (13 ∷ 14 ∷ 9 ∷ 15 ∷ 10 ∷ 16 ∷ 11 ∷ 17 ∷ 12 ∷ 18 ∷ 3 ∷ 19 ∷ 4 ∷ 20 ∷ 5 ∷ 21 ∷ 6 ∷ 22 ∷ 0 ∷ 1 ∷ 2 ∷ 7 ∷ []) $
-            free1 ! $ free1 ! $ free1 ! $ free1 ! $ free1 ! $ free1 ! $ free1 ! $ free1 ! $ free1 ! $ free0 ! $ by ! (exits t off)
+            returns ! (look ! 13 refl) $ keep ! (13 ∷ 14 ∷ 9 ∷ 15 ∷ 10 ∷ 16 ∷ 11 ∷ 17 ∷ 12 ∷ 18 ∷ 3 ∷ 19 ∷ 4 ∷ 20 ∷ 5 ∷ 21 ∷ 6 ∷ 22 ∷ 0 ∷ 1 ∷ 2 ∷ 7 ∷ []) $
+            frees-all ! (false ∷ false ∷ false ∷ false ∷ false ∷ false ∷ false ∷ true ∷ true ∷ []) _ _ $ by ! (exits t off)
 
         loops : (t : At xs m ys) → Seq (Go {0}) W (Inv t) (runs (𝓣 .C) (𝓣 .Λ) En (loop code-mir.turn-1) Left)
         loops = state-loop ! 𝓣 μ Inv (λ t. by-test (λ u. t .out .on ≡ u → Turns t) (t .out .on) (λ _ e. goes-on t e) (λ _ e. leaves t e) refl)

@@ -23,7 +23,7 @@ use ghost.Atoms.{Atoms}
 use contract.Monad.{Fun}
 use contract.Running.{givenOf, tables, tablesOf}
 use types.Kit.{Given, Item, ‵, raw, _⊛_, ⋆, Seq, Go, Post, anyQ, atRet, post, runs, _$_, _∵_, !, qed, by, move, keep, drop, use1, use2, split, join, rewrite, fsplit, fjoin, feqL, suffices, frame, done}
-use types.Run.{Below, look, look-raw, init, store, forget, stop, hop, fld, from, load, lit, of-opd, bin, addr, and-then, no-more, assigns, assigns-last, first, blocks, stays, leaves-loop, land, returns, enter, alloc1, alloc0, params1, pass1, pass0, free1, free0, exec}
+use types.Run.{Below, look, look-raw, init, store, forget, stop, hop, fld, from, load, lit, of-opd, bin, addr, and-then, no-more, assigns, assigns-last, first, blocks, stays, leaves-loop, land, returns, enter, alloc1, alloc0, params1, pass1, pass0, exec}
 use types.Part.{whole, sub, look-in, agg}
 use types.Share.{arr-parts}
 use sound.WpLaws.{FmC, fmOf, WpFn-mono}
@@ -57,6 +57,7 @@ use Rattle.blur.proofs.select.Pass.Laws as P′
 use Rattle.blur.proofs.Walk.Lists.{one-more}
 use Rattle.blur.proofs.Walk.Loop.{by-test, Less, state-loop, next-turn}
 use Rattle.blur.proofs.Walk.Call.{answers}
+use Rattle.blur.proofs.Walk.Free.{frees-all}
 use Rattle.blur.proofs.Walk.Lend.{lends, ends-loan}
 use Rattle.blur.proofs.Walk.Fold as L
 use Rattle.blur.proofs.select.tally as taken
@@ -269,9 +270,8 @@ module _ {M : Type 1} (𝓤 : URA M) (H : Heap 𝓤) (A : Atoms 𝓤) (W : Given
           move ! (0 ∷ 15 ∷ []) $ shuts-slice ! tt S.the-row q′ xs b o $
           move ! (1 ∷ []) $ move ! (0 ∷ 15 ∷ 16 ∷ 17 ∷ []) $ closes-slice ! tt u32 cs (t .acc .1) (t .real .1) b₁ o₁ $
           -- [obs; the borrow; its token; the records' token; _5; …; _12; _1; _2; _3; _4; _0; and that each local dies]
-          returns ! (look ! 16 refl) $ forget ! 4 refl $ forget ! 5 refl $ forget ! 6 refl $ forget ! 12 refl $ forget ! 13 refl $ forget ! 14 refl $ forget ! 15 refl $ forget ! 16 refl $
-          keep ! (16 ∷ 17 ∷ 12 ∷ 18 ∷ 13 ∷ 19 ∷ 14 ∷ 20 ∷ 15 ∷ 21 ∷ 4 ∷ 22 ∷ 5 ∷ 23 ∷ 6 ∷ 24 ∷ 7 ∷ 25 ∷ 8 ∷ 26 ∷ 9 ∷ 27 ∷ 10 ∷ 28 ∷ 11 ∷ 29 ∷ 0 ∷ 1 ∷ 2 ∷ 3 ∷ []) $
-          free1 ! $ free1 ! $ free1 ! $ free1 ! $ free1 ! $ free1 ! $ free1 ! $ free1 ! $ free1 ! $ free1 ! $ free1 ! $ free1 ! $ free1 ! $ free0 ! $ by ! (exits t (nltb→le (t .at) n (subst (λ (u : Bool). T (not u)) (sym e) tt)))
+          returns ! (look ! 16 refl) $ keep ! (16 ∷ 17 ∷ 12 ∷ 18 ∷ 13 ∷ 19 ∷ 14 ∷ 20 ∷ 15 ∷ 21 ∷ 4 ∷ 22 ∷ 5 ∷ 23 ∷ 6 ∷ 24 ∷ 7 ∷ 25 ∷ 8 ∷ 26 ∷ 9 ∷ 27 ∷ 10 ∷ 28 ∷ 11 ∷ 29 ∷ 0 ∷ 1 ∷ 2 ∷ 3 ∷ []) $
+          frees-all ! (false ∷ false ∷ false ∷ false ∷ false ∷ false ∷ false ∷ false ∷ true ∷ true ∷ true ∷ true ∷ true ∷ []) _ _ $ by ! (exits t (nltb→le (t .at) n (subst (λ (u : Bool). T (not u)) (sym e) tt)))
 
       loops : (t : At) → Seq (Go {0}) W (Inv t) (runs (𝓣 .C) (𝓣 .Λ) En (loop code-mir.turn-1) Left)
       loops = state-loop ! 𝓣 μ Inv (λ t. by-test (λ u. ltb (t .at) n ≡ u → Turns t) (ltb (t .at) n) (λ _ e. goes-on t e) (λ _ e. leaves t e) refl)

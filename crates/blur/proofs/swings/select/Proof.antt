@@ -21,7 +21,7 @@ use ghost.Atoms.{Atoms}
 use contract.Monad.{Fun}
 use contract.Running.{givenOf, tables, tablesOf}
 use types.Kit.{Given, Item, ‵, raw, _⊛_, ⋆, Seq, Go, Post, anyQ, atRet, post, runs, _$_, _∵_, !, qed, by, move, keep, drop, group, use0, use1, use2, split, join, rewrite, fsplit, fjoin, feqL, suffices, frame, done}
-use types.Run.{Below, look, init, store, forget, stop, fld, from, load, lit, of-opd, addr, and-then, no-more, assigns, first, blocks, stays, leaves-loop, land, land-last, returns, enter, alloc1, alloc0, params1, pass1, pass0, free1, free0, exec}
+use types.Run.{Below, look, init, store, forget, stop, fld, from, load, lit, of-opd, addr, and-then, no-more, assigns, first, blocks, stays, leaves-loop, land, land-last, returns, enter, alloc1, alloc0, params1, pass1, pass0, exec}
 use types.Part.{whole, sub, look-in, agg, rep}
 use sound.WpLaws.{FmC, fmOf, WpFn-mono}
 use denote.RattleType.{owns}
@@ -57,6 +57,7 @@ use Rattle.blur.proofs.length.LengthAnswer.Laws as R′
 use Rattle.blur.proofs.Rounds.{Known as Between, known-first, known-next, less, countables, narrowable, passes-number, passes-length}
 use Rattle.blur.proofs.Walk.Loop.{by-test, Less, state-loop, next-turn}
 use Rattle.blur.proofs.Walk.Call.{stating, answers}
+use Rattle.blur.proofs.Walk.Free.{frees-all}
 use Rattle.blur.proofs.Walk.Lend.{lends, ends-loan, array-row, row-room, array-typed, big-lit}
 use Rattle.blur.proofs.swings.pass as pass
 use Rattle.blur.proofs.swings.pass.Symbol as pass-def
@@ -320,9 +321,8 @@ module _ {M : Type 1} (𝓤 : URA M) (H : Heap 𝓤) (A : Atoms 𝓤) (W : Given
           land ! (from ! (stop !)) (init ! 16 refl (EL.lawful R.the-type R′.the-laws 𝓤 H A W tt .typed r _ is .0)) $
           move ! (2 ∷ []) $ row-room ! w32 size l₄ (t .acc .1) (t .real .1) $
           -- [_5; emp; true; _6; …; _12; the token; the records; _1; _2; _3; _4; _0; and that each local dies]
-          returns ! (look ! 16 refl) $ forget ! 3 refl $ forget ! 5 refl $ forget ! 12 refl $ forget ! 13 refl $ forget ! 14 refl $ forget ! 15 refl $ forget ! 16 refl $
-          keep ! (16 ∷ 17 ∷ 12 ∷ 18 ∷ 13 ∷ 19 ∷ 14 ∷ 20 ∷ 15 ∷ 21 ∷ 0 ∷ 22 ∷ 3 ∷ 23 ∷ 4 ∷ 24 ∷ 5 ∷ 25 ∷ 6 ∷ 26 ∷ 7 ∷ 27 ∷ 8 ∷ 28 ∷ 9 ∷ 29 ∷ 10 ∷ []) $
-          free1 ! $ free1 ! $ free1 ! $ free1 ! $ free1 ! $ free1 ! $ free1 ! $ free1 ! $ free1 ! $ free1 ! $ free1 ! $ free1 ! $ free1 ! $ free0 ! $ by ! (exits r w is (e′ ∙ ap Length (passes-length ss (t .acc .0) m (t .known) (selects .widths) off)))))
+          returns ! (look ! 16 refl) $ keep ! (16 ∷ 17 ∷ 12 ∷ 18 ∷ 13 ∷ 19 ∷ 14 ∷ 20 ∷ 15 ∷ 21 ∷ 0 ∷ 22 ∷ 3 ∷ 23 ∷ 4 ∷ 24 ∷ 5 ∷ 25 ∷ 6 ∷ 26 ∷ 7 ∷ 27 ∷ 8 ∷ 28 ∷ 9 ∷ 29 ∷ 10 ∷ []) $
+          frees-all ! (false ∷ false ∷ false ∷ false ∷ false ∷ true ∷ false ∷ true ∷ false ∷ true ∷ true ∷ true ∷ true ∷ []) _ _ $ by ! (exits r w is (e′ ∙ ap Length (passes-length ss (t .acc .0) m (t .known) (selects .widths) off)))))
 
       loops : (t : At) → Seq (Go {0}) W (Inv t) (runs (𝓣 .C) (𝓣 .Λ) En (loop code-mir.turn-1) Left)
       loops = state-loop ! 𝓣 μ Inv (λ t. by-test (λ u. t .acc .0 .on ≡ u → Turns t) (t .acc .0 .on) (λ _ e. goes-on t e) (λ _ e. leaves t e) refl)

@@ -20,7 +20,7 @@ use contract.Monad.{Fun}
 use contract.Running.{givenOf, tables, tablesOf}
 use types.Kit.{Given, Item, ‵, raw, _⊛_, ⋆, _$_, _∵_, !, qed, by, move, keep, drop, use1, use2, rewrite, split, join, fsplit, fjoin, feqL, suffices, frame, done}
 use types.Part.{agg, whole, sub, look-in}
-use types.Run.{look, init, forget, stop, hop, fld, from, load, addr, and-then, no-more, assigns, land, returns, enter, alloc1, alloc0, params1, pass1, pass0, free1, free0}
+use types.Run.{look, init, stop, hop, fld, from, load, addr, and-then, no-more, assigns, land, returns, enter, alloc1, alloc0, params1, pass1, pass0}
 use sound.WpLaws.{fmOf, WpFn-mono}
 use denote.RattleType.{owns}
 use denote.Laws.{Is}
@@ -47,6 +47,7 @@ use Rattle.blur.proofs.swings.Swing as S
 use Rattle.blur.proofs.length.LengthAnswer as R
 use Rattle.blur.proofs.length.LengthAnswer.Laws as R′
 use Rattle.blur.proofs.Walk.Call.{answers}
+use Rattle.blur.proofs.Walk.Free.{frees-all}
 use Rattle.blur.proofs.length.estimate_at as estimate
 use Rattle.blur.proofs.length.estimate_at.Symbol as estimate-def
 use Rattle.blur.proofs.length.estimate_at.Symbol.{name as #estimate}
@@ -184,9 +185,8 @@ module _ {M : Type 1} (𝓤 : URA M) (H : Heap 𝓤) (A : Atoms 𝓤) (W : Given
           use1 W (‵ (flft κc qc) ⊛ ‵ ftrue) (id⊢ 𝓤 _) $ move ! (1 ∷ []) $ fsplit ! $ drop ! $ fsplit ! $
           -- [the last length; true; token c; the last list; true; the tokens; _13 at 6; …]
           land ! (from ! (stop !)) (init ! 32 refl (uint-lawful 𝓤 H A W w8 .typed r₂ _ is₂ .0)) $
-          returns ! (look ! 32 refl) $ forget ! 6 refl $ forget ! 8 refl $ forget ! 10 refl $ forget ! 12 refl $ forget ! 14 refl $ forget ! 16 refl $ forget ! 18 refl $ forget ! 20 refl $ forget ! 22 refl $ forget ! 24 refl $ forget ! 26 refl $ forget ! 28 refl $ forget ! 30 refl $ forget ! 32 refl $
-          keep ! (32 ∷ 33 ∷ 30 ∷ 31 ∷ 28 ∷ 29 ∷ 26 ∷ 27 ∷ 24 ∷ 25 ∷ 22 ∷ 23 ∷ 20 ∷ 21 ∷ 18 ∷ 19 ∷ 16 ∷ 17 ∷ 14 ∷ 15 ∷ 12 ∷ 13 ∷ 10 ∷ 11 ∷ 8 ∷ 9 ∷ 6 ∷ 7 ∷ 5 ∷ 2 ∷ 3 ∷ 0 ∷ []) $
-          free1 ! $ free1 ! $ free1 ! $ free1 ! $ free1 ! $ free1 ! $ free1 ! $ free1 ! $ free1 ! $ free1 ! $ free1 ! $ free1 ! $ free1 ! $ free1 ! $ free0 ! $
+          returns ! (look ! 32 refl) $ keep ! (32 ∷ 33 ∷ 30 ∷ 31 ∷ 28 ∷ 29 ∷ 26 ∷ 27 ∷ 24 ∷ 25 ∷ 22 ∷ 23 ∷ 20 ∷ 21 ∷ 18 ∷ 19 ∷ 16 ∷ 17 ∷ 14 ∷ 15 ∷ 12 ∷ 13 ∷ 10 ∷ 11 ∷ 8 ∷ 9 ∷ 6 ∷ 7 ∷ 5 ∷ 2 ∷ 3 ∷ 0 ∷ []) $
+          frees-all ! [] _ _ $
           -- [tokens a and b; token c; the last list; the last length]
           use1 W (‵ (flft κa qa) ⊛ (‵ (flft κb qb) ⊛ ‵ ftrue)) (id⊢ 𝓤 _) $ split ! $ move ! (1 ∷ []) $ split ! $ move ! (0 ∷ 3 ∷ []) $ join ! $ move ! (2 ∷ 0 ∷ []) $ join ! $ move ! (0 ∷ 2 ∷ 3 ∷ []) $ keep ! (0 ∷ 1 ∷ 2 ∷ []) $
           by ! (exits r₂ v₂ (ws .1 .1 .1 .1 .1 .1 .1 .0) (ws′ .1 .0) same is₂ (record {

@@ -20,7 +20,7 @@ use contract.Lifetimes.{Lfts, Shares}
 use contract.Monad.{Fun}
 use contract.Running.{givenOf, tables, tablesOf}
 use types.Kit.{Given, Item, ‵, raw, _⊛_, ⋆, _$_, _∵_, !, qed, by, move, keep, drop, group, use0, use1, split, join, rewrite, fsplit, fjoin, feqL, suffices, frame, done}
-use types.Run.{look, init, forget, stop, hop, fld, from, load, addr, and-then, no-more, assigns, land, returns, enter, alloc1, alloc0, params1, pass1, pass0, free1, free0}
+use types.Run.{look, init, stop, hop, fld, from, load, addr, and-then, no-more, assigns, land, returns, enter, alloc1, alloc0, params1, pass1, pass0}
 use types.Part.{whole, sub, look-in, agg}
 use sound.WpLaws.{fmOf, WpFn-mono}
 use denote.RattleType.{owns}
@@ -35,8 +35,9 @@ use denote.Steps.{only, owned, nothing}
 use denote.Struct.Laws as LL
 use denote.Enum.Laws as EL
 use denote.Triple.Call.{calls-at}
-use denote.Triple.Entry.{onEntry}
+use denote.Triple.Entry.{onEntry, alive}
 use denote.Triple.Statement.{Contract, Triple}
+use denote.Triple.Clauses.{Lasts, lasts}
 use denote.Triple.Spec.{Meets, tripleOf}
 use denote.Triple.Table.{entered, cited}
 use denote.Triple.Walked.{says, Stays, stay-dropped, gave-slice, gave-ref, walkOf, AllGo, goes-dropped, goes-gave-slice, goes-gave-ref, Walks, ends-at, walked, walk-meets}
@@ -44,6 +45,7 @@ use denote.Exit.{yes}
 use Rattle.blur.specs.declared.swings.Swing.{Swing}
 use Rattle.blur.proofs.swings.Swing as S
 use Rattle.blur.proofs.Walk.Call.{answers}
+use Rattle.blur.proofs.Walk.Free.{frees-all}
 use Rattle.job.specs.Job.{Restored}
 use Rattle.job.specs.declared.JobConfig.{JobConfig}
 use Rattle.job.specs.declared.JobAnswer.{JobAnswer}
@@ -222,6 +224,21 @@ module _ {M : Type 1} (𝓤 : URA M) (H : Heap 𝓤) (A : Atoms 𝓤) (W : Given
       nothing ! $ move ! (6 ∷ 0 ∷ []) $ fjoin ! $ move ! (5 ∷ 0 ∷ []) $ fjoin ! $ move ! (4 ∷ 0 ∷ []) $ fjoin ! $ move ! (3 ∷ 0 ∷ []) $ fjoin ! $ move ! (2 ∷ 0 ∷ []) $ fjoin ! $ nothing ! $ fjoin ! $ nothing ! $ fjoin ! $ nothing ! $ fjoin ! $ nothing ! $ fjoin ! $ nothing ! $ fjoin ! $ nothing ! $ fjoin ! $ nothing ! $ fjoin ! $ nothing ! $ fjoin ! $ nothing ! $ fjoin ! $
       move ! (1 ∷ 0 ∷ []) $ fjoin ! $ nothing ! $ fjoin ! $ nothing ! $ fjoin ! $ nothing ! $ fjoin ! $ nothing ! $ fjoin ! $ frame ! $ owned ! u8 (Is u8) (uint-makes 𝓤 H A W w8) r _ is $ done !
 
+  -- and from what the last two callees leave: what is said of the out-parameters and of the lists at last, each behind its tokens
+  ends : (answer : JobAnswer) (r : ℕ) (v : Val) (ls : Lasts restore.ended (to-restore .0 .0) (to-restore .0 .3)) (os : Lasts back.ended (to-back answer .0 .0) (to-back answer .0 .3)) → Is u8 r (v ∷ [])
+      → JobCalled (Runs (ls .1 .1 .1 .1 .0) (ls .1 .1 .1 .1 .1 .1 .1 .1 .1 .0) (ls .1 .1 .1 .1 .1 .1 .1 .1 .1 .1 .0)) before (after (os .1 .0) (os .1 .1 .0) (os .1 .1 .1 .0)) r
+      → ent 𝓤 (⋆ 𝓤 H A (raw (alive 𝓤 H A (back.ended .signature) (to-back answer .0 .0) (to-back answer .0 .1)) ∷ ‵ (lasts back.ended (to-back answer .0 .0) (to-back answer .0 .3) os) ∷ raw (alive 𝓤 H A (restore.ended .signature) (to-restore .0 .0) (to-restore .0 .1)) ∷ ‵ (lasts restore.ended (to-restore .0 .0) (to-restore .0 .3) ls) ∷ [])) (Post′ v)
+  ends answer r v ls os is called =
+      qed W (raw (alive 𝓤 H A (back.ended .signature) (to-back answer .0 .0) (to-back answer .0 .1)) ∷ ‵ (lasts back.ended (to-back answer .0 .0) (to-back answer .0 .3) os) ∷ raw (alive 𝓤 H A (restore.ended .signature) (to-restore .0 .0) (to-restore .0 .1)) ∷ ‵ (lasts restore.ended (to-restore .0 .0) (to-restore .0 .3) ls) ∷ []) ∵
+      use1 W (‵ (flft κ₄ q₄) ⊛ (‵ (flft κ₅ q₅) ⊛ (‵ (flft κ₆ q₆) ⊛ ‵ ftrue))) (id⊢ 𝓤 _) $ split ! $ move ! (1 ∷ []) $ split ! $ move ! (1 ∷ []) $ split ! $ move ! (1 ∷ []) $ drop ! $
+      move ! (3 ∷ []) $ fsplit ! $ drop ! $ fsplit ! $ move ! (1 ∷ []) $ fsplit ! $ move ! (1 ∷ []) $ fsplit ! $ move ! (1 ∷ []) $ drop ! $
+      -- [the last estimate, blur length, direction; tokens 6, 5, 4; the other tokens; the last lists]
+      move ! (6 ∷ []) $ use1 W (‵ (flft κ₀ q₀) ⊛ (‵ (flft κ₁ q₁) ⊛ (‵ (flft κ₂ q₂) ⊛ (‵ (flft κ₃ q₃) ⊛ ‵ ftrue)))) (id⊢ 𝓤 _) $ split ! $ move ! (1 ∷ []) $ split ! $ move ! (1 ∷ []) $ split ! $ move ! (1 ∷ []) $ split ! $ move ! (1 ∷ []) $ drop ! $
+      move ! (10 ∷ []) $ fsplit ! $ drop ! $ fsplit ! $ drop ! $ fsplit ! $ drop ! $ fsplit ! $ drop ! $ fsplit ! $ fsplit ! $ move ! (1 ∷ []) $ feqL ! (λ same-dst. move ! (1 ∷ []) $ fsplit ! $ drop ! $ fsplit ! $ drop ! $ fsplit ! $ drop ! $ fsplit ! $ drop ! $ fsplit ! $ fsplit ! $ move ! (1 ∷ []) $ feqL ! (λ same-scratch. move ! (1 ∷ []) $ fsplit ! $ fsplit ! $ move ! (1 ∷ []) $ feqL ! (λ same-swings. move ! (1 ∷ []) $ drop ! $
+      -- [the last swings, scratch, destination; tokens 3, 2, 1, 0; the last estimate, blur length, direction; tokens 6, 5, 4]
+      keep ! (6 ∷ 5 ∷ 4 ∷ 3 ∷ 12 ∷ 11 ∷ 10 ∷ 2 ∷ 1 ∷ 0 ∷ 9 ∷ 8 ∷ 7 ∷ []) $
+      by ! (exits r v (ls .1 .1 .1 .1 .0) (ls .1 .1 .1 .1 .1 .1 .1 .1 .1 .0) (ls .1 .1 .1 .1 .1 .1 .1 .1 .1 .1 .0) (os .1 .0) (os .1 .1 .0) (os .1 .1 .1 .0) same-dst same-scratch same-swings is called))))
+
   module _ (is-source : Is (ShrSlice (named 0) κ₀ u8) source (source-val ∷ [])) (is-width : Is usize width (vint w64 width ∷ [])) (is-height : Is usize height (vint w64 height ∷ [])) (is-stride : Is usize stride (vint w64 stride ∷ [])) (is-dst : Is (MutSlice (named 1) κ₁ u8) dst (dst-val ∷ [])) (is-dst-width : Is usize dstWidth (vint w64 dstWidth ∷ [])) (is-dst-height : Is usize dstHeight (vint w64 dstHeight ∷ [])) (is-dst-stride : Is usize dstStride (vint w64 dstStride ∷ [])) (is-transitions : Is usize transitions (vint w64 transitions ∷ [])) (is-amplitude : Is u8 amplitude (vint w8 amplitude ∷ [])) (is-iterations : Is usize iterations (vint w64 iterations ∷ [])) (is-relaxation : Is f64 relaxation (vfloat binary64 relaxation ∷ [])) (is-border : Is u8 border (vint w8 border ∷ [])) (is-value : Is u8 value (vint w8 value ∷ [])) (is-scratch : Is (MutSlice (named 2) κ₂ i32) scratch (scratch-val ∷ [])) (is-swings : Is (MutSlice (named 3) κ₃ S.the-row) swings (swings-val ∷ [])) where
     asked-config : ent 𝓤 (emp 𝓤) (ConfigC 𝓤 H A mem run .pre to-config)
     asked-config =
@@ -237,7 +254,13 @@ module _ {M : Type 1} (𝓤 : URA M) (H : Heap 𝓤) (A : Atoms 𝓤) (W : Given
 
     walk : (𝓣 : Tables 𝓤 H) → Known 𝓤 H A mem run 𝓣 → ent 𝓤 (onEntry 𝓤 H A f.signature κs qs a vals) (WpFn 𝓤 H (𝓣 .C) (𝓣 .Λ) code.function machine Post′)
     walk 𝓣 known =
-        qed W (Tokens ∷ Owned ∷ []) ∵ enter ! (𝓣 .C) (𝓣 .Λ) code.function machine _ $
+        qed W (Tokens ∷ Owned ∷ []) ∵
+        -- what is passed is taken apart: what `job::restore` is lent, and what `return_job` is
+        split ! $ move ! (1 ∷ []) $ split ! $ move ! (1 ∷ []) $ split ! $ move ! (1 ∷ []) $ split ! $ move ! (1 ∷ []) $ split ! $ move ! (1 ∷ []) $ split ! $ move ! (1 ∷ []) $ split ! $ move ! (1 ∷ []) $ drop ! $
+        move ! (7 ∷ []) $ fsplit ! $ move ! (1 ∷ []) $ fsplit ! $ drop ! $ fsplit ! $ drop ! $ fsplit ! $ drop ! $ fsplit ! $ move ! (1 ∷ []) $ fsplit ! $ drop ! $ fsplit ! $ drop ! $ fsplit ! $ drop ! $ fsplit ! $ drop ! $ fsplit ! $ drop ! $ fsplit ! $ drop ! $ fsplit ! $ drop ! $ fsplit ! $ drop ! $ fsplit ! $ drop ! $ fsplit ! $ move ! (1 ∷ []) $ fsplit ! $ move ! (1 ∷ []) $ fsplit ! $ move ! (1 ∷ []) $ fsplit ! $ move ! (1 ∷ []) $ fsplit ! $ move ! (1 ∷ []) $ drop ! $
+        -- [estimate; blur length; direction; swings; scratch; destination; source; the seven tokens, the last first]
+        move ! (13 ∷ 12 ∷ 11 ∷ 10 ∷ 6 ∷ 5 ∷ 4 ∷ 3 ∷ []) $ group ! 8 $ move ! (6 ∷ 5 ∷ 4 ∷ 3 ∷ 2 ∷ 1 ∷ []) $ group ! 6 $
+        enter ! (𝓣 .C) (𝓣 .Λ) code.function machine _ $
         alloc1 ! (λ l₀. alloc1 ! (λ l₁. alloc1 ! (λ l₂. alloc1 ! (λ l₃. alloc1 ! (λ l₄. alloc1 ! (λ l₅. alloc1 ! (λ l₆. alloc1 ! (λ l₇. alloc1 ! (λ l₈. alloc1 ! (λ l₉. alloc1 ! (λ l₁₀. alloc1 ! (λ l₁₁. alloc1 ! (λ l₁₂. alloc1 ! (λ l₁₃. alloc1 ! (λ l₁₄. alloc1 ! (λ l₁₅. alloc1 ! (λ l₁₆. alloc1 ! (λ l₁₇. alloc1 ! (λ l₁₈. alloc1 ! (λ l₁₉. alloc1 ! (λ l₂₀. alloc1 ! (λ l₂₁. alloc1 ! (λ l₂₂. alloc1 ! (λ l₂₃. alloc1 ! (λ l₂₄. alloc1 ! (λ l₂₅. alloc1 ! (λ l₂₆. alloc1 ! (λ l₂₇. alloc1 ! (λ l₂₈. alloc1 ! (λ l₂₉. alloc1 ! (λ l₃₀. alloc0 ! $ params1 ! $
         pass1 ! (init ! 58 refl (shr-slice-lawful 𝓤 H A W (named 0) κ₀ u8 .typed source _ is-source .0)) $ pass1 ! (init ! 56 refl (uint-lawful 𝓤 H A W w64 .typed width _ is-width .0)) $ pass1 ! (init ! 54 refl (uint-lawful 𝓤 H A W w64 .typed height _ is-height .0)) $ pass1 ! (init ! 52 refl (uint-lawful 𝓤 H A W w64 .typed stride _ is-stride .0)) $ pass1 ! (init ! 50 refl (mut-slice-lawful 𝓤 H A W (named 1) κ₁ u8 .typed dst _ is-dst .0)) $ pass1 ! (init ! 48 refl (uint-lawful 𝓤 H A W w64 .typed dstWidth _ is-dst-width .0)) $ pass1 ! (init ! 46 refl (uint-lawful 𝓤 H A W w64 .typed dstHeight _ is-dst-height .0)) $ pass1 ! (init ! 44 refl (uint-lawful 𝓤 H A W w64 .typed dstStride _ is-dst-stride .0)) $ pass1 ! (init ! 42 refl (uint-lawful 𝓤 H A W w64 .typed transitions _ is-transitions .0)) $ pass1 ! (init ! 40 refl (uint-lawful 𝓤 H A W w8 .typed amplitude _ is-amplitude .0)) $ pass1 ! (init ! 38 refl (uint-lawful 𝓤 H A W w64 .typed iterations _ is-iterations .0)) $ pass1 ! (init ! 36 refl (float-lawful 𝓤 H A W binary64 .typed relaxation _ is-relaxation .0)) $ pass1 ! (init ! 34 refl (uint-lawful 𝓤 H A W w8 .typed border _ is-border .0)) $ pass1 ! (init ! 32 refl (uint-lawful 𝓤 H A W w8 .typed value _ is-value .0)) $ pass1 ! (init ! 30 refl (mut-slice-lawful 𝓤 H A W (named 2) κ₂ i32 .typed scratch _ is-scratch .0)) $ pass1 ! (init ! 28 refl (mut-slice-lawful 𝓤 H A W (named 3) κ₃ S.the-row .typed swings _ is-swings .0)) $ pass1 ! (init ! 26 refl (tt, tt)) $ pass1 ! (init ! 24 refl (tt, tt)) $ pass1 ! (init ! 22 refl (tt, tt)) $ pass0 ! $
         use0 W (raw (ConfigC 𝓤 H A mem run .pre to-config)) asked-config $
@@ -251,33 +274,23 @@ module _ {M : Type 1} (𝓤 : URA M) (H : Heap 𝓤) (A : Atoms 𝓤) (W : Given
         assigns ! (agg ! (and-then ! (load ! (from ! (stop !)) (look ! 12 refl)) (and-then ! (load ! (from ! (fld ! refl (stop !))) (look-in ! 30 (sub ! 1 refl (whole !)))) (no-more !)))) (from ! (stop !)) (init ! 10 refl (tt, (tt, (record { fits = is-scratch .0 .1 .0 }, tt)))) $
         assigns ! (addr ! (from ! (fld ! refl (hop ! (look-in ! 28 (sub ! 0 refl (whole !))) (stop !))))) (from ! (stop !)) (init ! 8 refl (tt, tt)) $
         assigns ! (agg ! (and-then ! (load ! (from ! (stop !)) (look ! 8 refl)) (and-then ! (load ! (from ! (fld ! refl (stop !))) (look-in ! 28 (sub ! 1 refl (whole !)))) (no-more !)))) (from ! (stop !)) (init ! 6 refl (tt, (tt, (record { fits = is-swings .0 .1 .0 }, tt)))) $
-        -- what is passed is taken apart
-        move ! (62 ∷ []) $ split ! $ move ! (1 ∷ []) $ split ! $ move ! (1 ∷ []) $ split ! $ move ! (1 ∷ []) $ split ! $ move ! (1 ∷ []) $ split ! $ move ! (1 ∷ []) $ split ! $ move ! (1 ∷ []) $ split ! $ move ! (1 ∷ []) $ drop ! $
-        move ! (69 ∷ []) $ fsplit ! $ move ! (1 ∷ []) $ fsplit ! $ drop ! $ fsplit ! $ drop ! $ fsplit ! $ drop ! $ fsplit ! $ move ! (1 ∷ []) $ fsplit ! $ drop ! $ fsplit ! $ drop ! $ fsplit ! $ drop ! $ fsplit ! $ drop ! $ fsplit ! $ drop ! $ fsplit ! $ drop ! $ fsplit ! $ drop ! $ fsplit ! $ drop ! $ fsplit ! $ drop ! $ fsplit ! $ move ! (1 ∷ []) $ fsplit ! $ move ! (1 ∷ []) $ fsplit ! $ move ! (1 ∷ []) $ fsplit ! $ move ! (1 ∷ []) $ fsplit ! $ move ! (1 ∷ []) $ drop ! $
-        -- [estimate; blur length; direction; swings; scratch; destination; source; the seven tokens, the last first; _30 at 14; …]
-        move ! (13 ∷ 12 ∷ 11 ∷ 10 ∷ 6 ∷ 5 ∷ 4 ∷ 3 ∷ []) $ group ! 8 $ use1 W (raw (RestoreC 𝓤 H A mem run .pre to-restore))
+        move ! (63 ∷ []) $ use1 W (raw (RestoreC 𝓤 H A mem run .pre to-restore))
         (asked-restore (subst (λ (c : JobConfig). Is C.the-row c (config-val c ∷ [])) e₁ (subst (Is C.the-row r₁) (LL.tells C.the-type C′.the-laws r₁ _ is₁) is₁))) $
-        -- [what the callee asks; estimate; blur length; direction; tokens 6, 5, 4; _30 at 7; …]
-        calls-at ! (fmOf 𝓤 H (W .laws) 𝓣) (RestoreC 𝓤 H A mem run) (known .restores) to-restore (and-then ! (load ! (from ! (stop !)) (look ! 65 refl)) (and-then ! (load ! (from ! (stop !)) (look ! 63 refl)) (and-then ! (load ! (from ! (stop !)) (look ! 61 refl)) (and-then ! (load ! (from ! (stop !)) (look ! 59 refl)) (and-then ! (load ! (from ! (stop !)) (look ! 21 refl)) (and-then ! (load ! (from ! (stop !)) (look ! 55 refl)) (and-then ! (load ! (from ! (stop !)) (look ! 53 refl)) (and-then ! (load ! (from ! (stop !)) (look ! 51 refl)) (and-then ! (load ! (from ! (stop !)) (look ! 27 refl)) (and-then ! (load ! (from ! (stop !)) (look ! 17 refl)) (and-then ! (load ! (from ! (stop !)) (look ! 13 refl)) (no-more !)))))))))))) (λ v₂.
+        -- [what the callee asks; _30 at 1; …; what `return_job` is lent at 63]
+        calls-at ! (fmOf 𝓤 H (W .laws) 𝓣) (RestoreC 𝓤 H A mem run) (known .restores) to-restore (and-then ! (load ! (from ! (stop !)) (look ! 59 refl)) (and-then ! (load ! (from ! (stop !)) (look ! 57 refl)) (and-then ! (load ! (from ! (stop !)) (look ! 55 refl)) (and-then ! (load ! (from ! (stop !)) (look ! 53 refl)) (and-then ! (load ! (from ! (stop !)) (look ! 15 refl)) (and-then ! (load ! (from ! (stop !)) (look ! 49 refl)) (and-then ! (load ! (from ! (stop !)) (look ! 47 refl)) (and-then ! (load ! (from ! (stop !)) (look ! 45 refl)) (and-then ! (load ! (from ! (stop !)) (look ! 21 refl)) (and-then ! (load ! (from ! (stop !)) (look ! 11 refl)) (and-then ! (load ! (from ! (stop !)) (look ! 7 refl)) (no-more !)))))))))))) (λ v₂.
         answers ! tt restore.ended (restore.clauses 𝓤 H A mem run) to-restore v₂ (λ r ws. Runs (ws .1 .1 .1 .1 .0) (ws .1 .1 .1 .1 .1 .1 .1 .1 .1 .0) (ws .1 .1 .1 .1 .1 .1 .1 .1 .1 .1 .0) r) (λ r ws. id⊢ 𝓤 _) (λ r₂ ws₂ e₂ is₂.
-        use1 W (‵ (flft κ₀ q₀) ⊛ (‵ (flft κ₁ q₁) ⊛ (‵ (flft κ₂ q₂) ⊛ (‵ (flft κ₃ q₃) ⊛ ‵ ftrue)))) (id⊢ 𝓤 _) $ split ! $ move ! (1 ∷ []) $ split ! $ move ! (1 ∷ []) $ split ! $ move ! (1 ∷ []) $ split ! $ move ! (1 ∷ []) $ drop ! $
-        move ! (4 ∷ []) $ fsplit ! $ drop ! $ fsplit ! $ drop ! $ fsplit ! $ drop ! $ fsplit ! $ drop ! $ fsplit ! $ fsplit ! $ move ! (1 ∷ []) $ feqL ! (λ same-dst. move ! (1 ∷ []) $ fsplit ! $ drop ! $ fsplit ! $ drop ! $ fsplit ! $ drop ! $ fsplit ! $ drop ! $ fsplit ! $ fsplit ! $ move ! (1 ∷ []) $ feqL ! (λ same-scratch. move ! (1 ∷ []) $ fsplit ! $ fsplit ! $ move ! (1 ∷ []) $ feqL ! (λ same-swings. move ! (1 ∷ []) $ drop ! $
-        -- [the last swings, scratch, destination; tokens 3, 2, 1, 0; estimate; blur length; direction; tokens 6, 5, 4; _30 at 13; …]
-        land ! (from ! (stop !)) (init ! 31 refl (EL.lawful J.the-type J′.the-laws 𝓤 H A W tt .typed r₂ _ is₂ .0)) $
-        rewrite ! 31 (λ (v : Val). ‵ (fat fullShare J′.mir l₂₁ 0 v)) (ap only (EL.tells J.the-type J′.the-laws r₂ _ is₂)) refl $
-        assigns ! (addr ! (from ! (hop ! (look ! 39 refl) (stop !)))) (from ! (stop !)) (init ! 17 refl (tt, tt)) $ assigns ! (addr ! (from ! (hop ! (look ! 37 refl) (stop !)))) (from ! (stop !)) (init ! 15 refl (tt, tt)) $ assigns ! (addr ! (from ! (hop ! (look ! 35 refl) (stop !)))) (from ! (stop !)) (init ! 13 refl (tt, tt)) $
-        move ! (12 ∷ 11 ∷ 10 ∷ 9 ∷ 8 ∷ 7 ∷ []) $ group ! 6 $ use1 W (raw (BackC 𝓤 H A mem run .pre (to-back r₂))) (asked-back r₂ (subst (Is J.the-row r₂) (EL.tells J.the-type J′.the-laws r₂ _ is₂) is₂)) $
-        -- [what the callee asks; the last swings, scratch, destination; tokens 3, 2, 1, 0; _30 at 8; …]
-        calls-at ! (fmOf 𝓤 H (W .laws) 𝓣) (BackC 𝓤 H A mem run) (known .gives) (to-back r₂) (and-then ! (load ! (from ! (stop !)) (look ! 26 refl)) (and-then ! (load ! (from ! (stop !)) (look ! 12 refl)) (and-then ! (load ! (from ! (stop !)) (look ! 10 refl)) (and-then ! (load ! (from ! (stop !)) (look ! 8 refl)) (no-more !))))) (λ v₃.
+        -- [the tokens; the last lists; _30 at 2; …; what `return_job` is lent at 64]
+        land ! (from ! (stop !)) (init ! 20 refl (EL.lawful J.the-type J′.the-laws 𝓤 H A W tt .typed r₂ _ is₂ .0)) $
+        rewrite ! 20 (λ (v : Val). ‵ (fat fullShare J′.mir l₂₁ 0 v)) (ap only (EL.tells J.the-type J′.the-laws r₂ _ is₂)) refl $
+        assigns ! (addr ! (from ! (hop ! (look ! 28 refl) (stop !)))) (from ! (stop !)) (init ! 6 refl (tt, tt)) $ assigns ! (addr ! (from ! (hop ! (look ! 26 refl) (stop !)))) (from ! (stop !)) (init ! 4 refl (tt, tt)) $ assigns ! (addr ! (from ! (hop ! (look ! 24 refl) (stop !)))) (from ! (stop !)) (init ! 2 refl (tt, tt)) $
+        move ! (64 ∷ []) $ use1 W (raw (BackC 𝓤 H A mem run .pre (to-back r₂))) (asked-back r₂ (subst (Is J.the-row r₂) (EL.tells J.the-type J′.the-laws r₂ _ is₂) is₂)) $
+        -- [what the callee asks; the tokens; the last lists; _30 at 3; …]
+        calls-at ! (fmOf 𝓤 H (W .laws) 𝓣) (BackC 𝓤 H A mem run) (known .gives) (to-back r₂) (and-then ! (load ! (from ! (stop !)) (look ! 21 refl)) (and-then ! (load ! (from ! (stop !)) (look ! 7 refl)) (and-then ! (load ! (from ! (stop !)) (look ! 5 refl)) (and-then ! (load ! (from ! (stop !)) (look ! 3 refl)) (no-more !))))) (λ v₃.
         answers ! tt back.ended (back.clauses 𝓤 H A mem run) (to-back r₂) v₃ (λ r ws. JobGiven r₂ before (after (ws .1 .0) (ws .1 .1 .0) (ws .1 .1 .1 .0)) r) (λ r ws. id⊢ 𝓤 _) (λ r₃ ws₃ e₃ is₃.
-        use1 W (‵ (flft κ₄ q₄) ⊛ (‵ (flft κ₅ q₅) ⊛ (‵ (flft κ₆ q₆) ⊛ ‵ ftrue))) (id⊢ 𝓤 _) $ split ! $ move ! (1 ∷ []) $ split ! $ move ! (1 ∷ []) $ split ! $ move ! (1 ∷ []) $ drop ! $
-        move ! (3 ∷ []) $ fsplit ! $ drop ! $ fsplit ! $ move ! (1 ∷ []) $ fsplit ! $ move ! (1 ∷ []) $ fsplit ! $ move ! (1 ∷ []) $ drop ! $
-        -- [the last estimate, blur length, direction; tokens 6, 5, 4; the last swings, scratch, destination; tokens 3, 2, 1, 0; _30 at 13; …]
-        land ! (from ! (stop !)) (init ! 73 refl (uint-lawful 𝓤 H A W w8 .typed r₃ _ is₃ .0)) $
-        returns ! (look ! 73 refl) $ forget ! 13 refl $ forget ! 15 refl $ forget ! 17 refl $ forget ! 19 refl $ forget ! 21 refl $ forget ! 23 refl $ forget ! 25 refl $ forget ! 27 refl $ forget ! 29 refl $ forget ! 31 refl $ forget ! 33 refl $ forget ! 35 refl $ forget ! 37 refl $ forget ! 39 refl $ forget ! 41 refl $ forget ! 43 refl $ forget ! 45 refl $ forget ! 47 refl $ forget ! 49 refl $ forget ! 51 refl $ forget ! 53 refl $ forget ! 55 refl $ forget ! 57 refl $ forget ! 59 refl $ forget ! 61 refl $ forget ! 63 refl $ forget ! 65 refl $ forget ! 67 refl $ forget ! 69 refl $ forget ! 71 refl $ forget ! 73 refl $
-        keep ! (73 ∷ 74 ∷ 71 ∷ 72 ∷ 69 ∷ 70 ∷ 67 ∷ 68 ∷ 65 ∷ 66 ∷ 63 ∷ 64 ∷ 61 ∷ 62 ∷ 59 ∷ 60 ∷ 57 ∷ 58 ∷ 55 ∷ 56 ∷ 53 ∷ 54 ∷ 51 ∷ 52 ∷ 49 ∷ 50 ∷ 47 ∷ 48 ∷ 45 ∷ 46 ∷ 43 ∷ 44 ∷ 41 ∷ 42 ∷ 39 ∷ 40 ∷ 37 ∷ 38 ∷ 35 ∷ 36 ∷ 33 ∷ 34 ∷ 31 ∷ 32 ∷ 29 ∷ 30 ∷ 27 ∷ 28 ∷ 25 ∷ 26 ∷ 23 ∷ 24 ∷ 21 ∷ 22 ∷ 19 ∷ 20 ∷ 17 ∷ 18 ∷ 15 ∷ 16 ∷ 13 ∷ 14 ∷ 12 ∷ 11 ∷ 10 ∷ 9 ∷ 5 ∷ 4 ∷ 3 ∷ 8 ∷ 7 ∷ 6 ∷ 2 ∷ 1 ∷ 0 ∷ []) $
-        free1 ! $ free1 ! $ free1 ! $ free1 ! $ free1 ! $ free1 ! $ free1 ! $ free1 ! $ free1 ! $ free1 ! $ free1 ! $ free1 ! $ free1 ! $ free1 ! $ free1 ! $ free1 ! $ free1 ! $ free1 ! $ free1 ! $ free1 ! $ free1 ! $ free1 ! $ free1 ! $ free1 ! $ free1 ! $ free1 ! $ free1 ! $ free1 ! $ free1 ! $ free1 ! $ free1 ! $ free0 ! $
-        by ! (exits r₃ v₃ (ws₂ .1 .1 .1 .1 .0) (ws₂ .1 .1 .1 .1 .1 .1 .1 .1 .1 .0) (ws₂ .1 .1 .1 .1 .1 .1 .1 .1 .1 .1 .0) (ws₃ .1 .0) (ws₃ .1 .1 .0) (ws₃ .1 .1 .1 .0) same-dst same-scratch same-swings is₃ (record { answer = r₂; called = e₂; given = e₃ }))))))))))))))))))))))))))))))))))))))))))
+        land ! (from ! (stop !)) (init ! 64 refl (uint-lawful 𝓤 H A W w8 .typed r₃ _ is₃ .0)) $
+        returns ! (look ! 64 refl) $ keep ! (64 ∷ 65 ∷ 62 ∷ 63 ∷ 60 ∷ 61 ∷ 58 ∷ 59 ∷ 56 ∷ 57 ∷ 54 ∷ 55 ∷ 52 ∷ 53 ∷ 50 ∷ 51 ∷ 48 ∷ 49 ∷ 46 ∷ 47 ∷ 44 ∷ 45 ∷ 42 ∷ 43 ∷ 40 ∷ 41 ∷ 38 ∷ 39 ∷ 36 ∷ 37 ∷ 34 ∷ 35 ∷ 32 ∷ 33 ∷ 30 ∷ 31 ∷ 28 ∷ 29 ∷ 26 ∷ 27 ∷ 24 ∷ 25 ∷ 22 ∷ 23 ∷ 20 ∷ 21 ∷ 18 ∷ 19 ∷ 16 ∷ 17 ∷ 14 ∷ 15 ∷ 12 ∷ 13 ∷ 10 ∷ 11 ∷ 8 ∷ 9 ∷ 6 ∷ 7 ∷ 4 ∷ 5 ∷ 0 ∷ 1 ∷ 2 ∷ 3 ∷ []) $
+        frees-all ! [] _ _ $
+        by ! (ends r₂ r₃ v₃ ws₂ ws₃ is₃ (record { answer = r₂; called = e₂; given = e₃ })))))))))))))))))))))))))))))))))))))))
 
 module _ {M : Type 1} (𝓤 : URA M) (H : Heap 𝓤) (A : Atoms 𝓤) (W : Given 𝓤 H A) (mem : Memory → SProp 𝓤) (run : Routine → Fun 𝓤) (𝓣 : Tables 𝓤 H) (known : Known 𝓤 H A mem run 𝓣) where
   smear-walks : Walks 𝓤 H A f.ended stayed (WpFn 𝓤 H (𝓣 .C) (𝓣 .Λ) code.function) (f.clauses 𝓤 H A mem run)

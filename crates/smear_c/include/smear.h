@@ -85,6 +85,14 @@ uint8_t smear_restore(
     int32_t *scratch, size_t scratch_len, smear_swing *swings, size_t swings_len,
     uint8_t *direction, size_t *blur_length, double *estimate);
 
+/* The program's work. `job` is the 32-byte record of a job and `picture` its picture, tight; what lies behind its pixels is ignored. Into the
+ * front of `out` go the pixels and the 32-byte record of the result, or one of the texts "refused N\n" (13 where `job` is no job's record)
+ * and "too large\n" (more than 4,096 pixels). *written is how many bytes that is, at most 4,128; what stands behind them in `out` is not
+ * changed. 10 where `out` is shorter, and nothing is changed.
+ * On the stack: at most 152 KiB of local arrays. */
+uint8_t smear_run(const uint8_t *job, size_t job_len, const uint8_t *picture, size_t picture_len, uint8_t *out, size_t out_len,
+                  size_t *written);
+
 #ifdef __cplusplus
 }
 #endif

@@ -3,3 +3,4 @@ pub mod Direction
 pub mod Restoration
 pub mod Length
 pub mod WholeJob
+pub mod Program

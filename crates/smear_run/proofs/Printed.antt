@@ -4,18 +4,21 @@ use mathlib.Core.Bool.{true, false}
 use mathlib.Core.List.{List, _++_}
 use Prim.Native.Nat.{ℕ, _+_, _-_, _*_, _≤_, _<_}
 use native.Mathlib.Omega.{arith}
-use borrow.Author.Tests.{lt-ltb, le-ltb}
+use borrow.Author.Tests.{ltb-false, lt-ltb, le-ltb}
+use lib.Dec.{ltb}
 use lib.ListN.{length, take, drop}
 use lib.Seq.{take-length, take-at, length-take-le}
 use Rattle.numbers.proofs.List.{length-part}
+use Rattle.numbers.proofs.Test.{by-test}
 use Rattle.record.specs.Record.{readRecord, isJob, Wrote}
 use Rattle.record.specs.declared.Record.{Record}
 use Rattle.record.specs.declared.ReadAnswer.the-variants as read
 use Rattle.record.proofs.Answer.{wrote-number, wrote-bytes}
 use Rattle.smear_run.specs.Stage.{stage}
-use Rattle.smear_run.specs.Output.{refusedText, tooLarge, thenRecord, printed, jobOutput, output, Ran}
+use Rattle.smear_run.specs.Output.{refusedText, tooLarge, thenRecord, printed, jobOutput, output, answerOf, Ran}
 use Rattle.smear_run.specs.Parts.{Front, Filtered, finished}
 use Rattle.smear_run.specs.declared.filters.FilterAnswer.{FilterAnswer}
+use Rattle.smear_run.specs.declared.RunAnswer.{RunAnswer}
 use Rattle.smear_run.specs.declared.RunAnswer.the-variants.{Written, Refused}
 use Rattle.smear_run.proofs.Fronts.{front-joined}
 use Rattle.smear_run.proofs.Stages.{filtered-printed, refused-text}
@@ -80,3 +83,22 @@ module _ (job picture : List ℕ) where
         let same = e ∙ ap (λ (xs : List ℕ). take (length xs) xs ++ drop (length xs) old) (f .bytes) in
         let all = ap (λ (xs : List ℕ). xs ++ drop (length (output job picture)) old) (take-length (output job picture)) in
         record { answered = rw t (ap Written (f .count)); bytes = rw t (same ∙ all) }
+
+-- what was written fits
+pub ran-fits : {job picture old new : List ℕ} {answer : RunAnswer} {n : ℕ} → Ran job picture old new answer → answer ≡ Written n → n ≤ length old
+ran-fits {job} {picture} {old} {n = n} ran e = by-test (ltb (length old) (length (output job picture))) short whole
+  where
+    said : answerOf (length old) (output job picture) ≡ Written n
+    said = sym (ran .answered) ∙ e
+
+    short : ltb (length old) (length (output job picture)) ≡ true → n ≤ length old
+    short t =
+        let same : Refused 10 ≡ Written n = rw t at said in
+        let z : _≡_ {A = ℕ} 0 1 = cc in
+        absurd (omega arith)
+
+    whole : ltb (length old) (length (output job picture)) ≡ false → n ≤ length old
+    whole t =
+        let same : Written (length (output job picture)) ≡ Written n = rw t at said in
+        let l : length (output job picture) ≡ n = cc in
+        rw (← l) (ltb-false (length old) (length (output job picture)) t)

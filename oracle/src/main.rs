@@ -1,10 +1,10 @@
 //! Compares the proved library with the Rust original: the same inputs, from a seeded generator, through the C interface.
 //! Ends with status 1 at the first difference, which it prints as small as it can make it.
-//! oracle --vectors PATH instead writes the Rust's answers to chosen inputs.
 
 mod angle;
 mod binomial;
 mod case;
+mod cases;
 mod direction;
 mod ffi;
 mod job;
@@ -24,7 +24,8 @@ const USAGE: &str = "usage: oracle [--seed N] [--count N] [--only CALL]
   --seed N        another run of the generator (default 1)
   --count N       inputs of each call, beside the fixed ones (default 30000)
   --only CALL     only the calls whose names begin so
-  --vectors PATH  instead writes the Rust's answers to chosen inputs";
+  --vectors PATH  instead writes the Rust's answers to chosen inputs
+  --cases DIR     instead writes the program's stored cases";
 
 type Compare = fn(&mut Random, usize, &mut Tally);
 
@@ -60,6 +61,7 @@ fn main() {
             "--count" => count = value.parse().unwrap_or_else(|_| usage()),
             "--only" => only = value,
             "--vectors" => return vectors::write(&value),
+            "--cases" => return cases::write(&value),
             _ => usage(),
         }
     }

@@ -1,0 +1,177 @@
+//! The program's stored cases: the two files of each, and what document 01 and the Rust original say that the program prints.
+
+use crate::reader::printed;
+use std::path::Path;
+
+/// The fields of a record, in the order of its bytes.
+#[derive(Clone, Copy, Default)]
+struct Record {
+    width: u16,
+    height: u16,
+    direction: u8,
+    border: u8,
+    value: u8,
+    filter: u8,
+    length: u16,
+    iterations: u16,
+    q: u32,
+    angle: f64,
+    estimate: f64,
+}
+
+const DOCUMENT: Record =
+    Record { width: 5, height: 1, direction: 0, border: 0, value: 0, filter: 1, length: 3, iterations: 1, q: 65536, angle: 0.0, estimate: 0.0 };
+const ROW: [u8; 5] = [10, 10, 40, 10, 10];
+
+impl Record {
+    fn bytes(&self) -> Vec<u8> {
+        let mut bytes = Vec::new();
+        bytes.extend(self.width.to_le_bytes());
+        bytes.extend(self.height.to_le_bytes());
+        bytes.extend([self.direction, self.border, self.value, self.filter]);
+        bytes.extend(self.length.to_le_bytes());
+        bytes.extend(self.iterations.to_le_bytes());
+        bytes.extend(self.q.to_le_bytes());
+        bytes.extend(self.angle.to_bits().to_le_bytes());
+        bytes.extend(self.estimate.to_bits().to_le_bytes());
+        bytes
+    }
+}
+
+fn picture(width: usize, height: usize, at: impl Fn(usize, usize) -> u8) -> Vec<u8> {
+    (0..width * height).map(|place| at(place % width, place / width)).collect()
+}
+
+/// Numbers that no filter leaves as they are.
+fn mixed(width: usize, height: usize) -> Vec<u8> {
+    picture(width, height, |c, r| ((c * c * 7 + r * 29 + c * r * 13) % 256) as u8)
+}
+
+/// Blocks of 8 by 8, smeared over 7 pixels along the rows, or along the columns.
+fn smeared(side: usize, along_rows: bool) -> Vec<u8> {
+    let block = |c: usize, r: usize| if (c / 8 * 5 + r / 8 * 3 + c / 8 * (r / 8)) % 2 == 0 { 40u32 } else { 210 };
+    picture(side, side, |c, r| {
+        let (along, across) = if along_rows { (c, r) } else { (r, c) };
+        let places = (0..7).map(|i| (along + i).clamp(3, side + 2) - 3);
+        let sum: u32 = places.map(|p| if along_rows { block(p, across) } else { block(across, p) }).sum();
+        (sum / 7) as u8
+    })
+}
+
+/// Nine long diagonals, each rising from end to end with a jump at both ends; stripes along the others.
+fn long_rises(side: usize) -> Vec<u8> {
+    picture(side, side, |c, r| {
+        let (off, place, last) = (c.abs_diff(r), c.min(r), side - 1 - c.abs_diff(r));
+        match place {
+            _ if off > 4 => (off / 3 % 2 * 255) as u8,
+            0 => 0,
+            _ if place == last => 200,
+            _ => (44 + 112 * place / last) as u8,
+        }
+    })
+}
+
+struct Stored {
+    name: &'static str,
+    job: Option<Vec<u8>>,
+    picture: Option<Vec<u8>>,
+    expected: Vec<u8>,
+}
+
+/// A missing file counts as empty.
+fn stored(name: &'static str, job: Option<Vec<u8>>, picture: Option<Vec<u8>>) -> Stored {
+    let expected = printed(job.as_deref().unwrap_or_default(), picture.as_deref().unwrap_or_default()).expect("no tie of direction");
+    Stored { name, job, picture, expected }
+}
+
+fn case(name: &'static str, job: Record, picture: Vec<u8>) -> Stored {
+    stored(name, Some(job.bytes()), Some(picture))
+}
+
+/// A case whose output begins so by document 01's own words.
+fn stated(case: Stored, words: &[u8]) -> Stored {
+    assert_eq!(&case.expected[..words.len()], words, "{}", case.name);
+    case
+}
+
+/// A record that is no job, or no record.
+fn no_job(name: &'static str, job: Vec<u8>) -> Stored {
+    stated(stored(name, Some(job), Some(ROW.to_vec())), b"refused 13\n")
+}
+
+fn whole(width: u16, height: u16) -> Record {
+    Record { width, height, length: 0, iterations: 3, ..DOCUMENT }
+}
+
+fn document() -> Vec<Stored> {
+    let row = |name, job, pixels: [u8; 5]| stated(case(name, job, ROW.to_vec()), &pixels);
+    let ramps = [0, 0, 0, 50, 100, 150, 200, 250, 250, 250].repeat(3);
+    vec![
+        row("restoration-one", DOCUMENT, [10, 0, 60, 0, 10]),
+        row("restoration-two", Record { iterations: 2, ..DOCUMENT }, [14, 0, 80, 0, 14]),
+        row("unsharp", Record { filter: 2, iterations: 0, q: 98304, ..DOCUMENT }, [10, 0, 70, 0, 10]),
+        row("binomial", Record { width: 5, height: 1, filter: 3, ..Record::default() }, [8, 2, 59, 2, 8]),
+        stated(case("whole-job-nothing", whole(10, 3), ramps), b"refused 11\n"),
+    ]
+}
+
+fn filters() -> Vec<Stored> {
+    let line = Record { width: 16, height: 12, length: 5, iterations: 4, q: 45875, ..DOCUMENT };
+    let sharp = Record { filter: 2, iterations: 0, ..line };
+    let pixels = || mixed(16, 12);
+    vec![
+        case("restoration-horizontal-reflect", Record { border: 1, ..line }, pixels()),
+        case("restoration-down-right-replicate", Record { angle: 0.75, ..line }, pixels()),
+        case("restoration-vertical-constant", Record { angle: 1.5, border: 2, value: 90, length: 33, ..line }, pixels()),
+        case("restoration-down-left-22", Record { angle: -1.0, iterations: 22, q: 65536, border: 1, ..line }, pixels()),
+        case("restoration-q-0", Record { angle: 3.0, q: 0, ..line }, pixels()),
+        case("unsharp-vertical-reflect", Record { angle: 1.6, border: 1, q: 524288, ..sharp }, pixels()),
+        case("unsharp-down-left-constant", Record { angle: 2.3, border: 2, value: 255, q: 1, length: 31, ..sharp }, pixels()),
+        case("binomial-picture", Record { width: 16, height: 12, filter: 3, ..Record::default() }, pixels()),
+        case("binomial-largest", Record { width: 64, height: 64, filter: 3, ..Record::default() }, mixed(64, 64)),
+        case("whole-job-rows", whole(48, 48), smeared(48, true)),
+        case("whole-job-columns", Record { border: 2, value: 128, q: 52429, ..whole(56, 56) }, smeared(56, false)),
+        stated(case("whole-job-too-long", whole(40, 40), long_rises(40)), b"refused 12\n"),
+        case("picture-surplus", DOCUMENT, [&ROW[..], &[1, 2, 3]].concat()),
+    ]
+}
+
+fn refusals() -> Vec<Stored> {
+    let huge = Record { width: 65, height: 64, length: 3, ..DOCUMENT };
+    let large = |name, job: Record, picture| stated(stored(name, Some(job.bytes()), picture), b"too large\n");
+    vec![
+        stated(case("picture-short", DOCUMENT, ROW[..4].to_vec()), b"refused 4\n"),
+        stated(case("picture-empty", DOCUMENT, Vec::new()), b"refused 4\n"),
+        stated(stored("picture-missing", Some(DOCUMENT.bytes()), None), b"refused 4\n"),
+        stated(stored("job-missing", None, Some(ROW.to_vec())), b"refused 13\n"),
+        stated(stored("both-missing", None, None), b"refused 13\n"),
+        large("too-large", huge, Some(mixed(64, 64))),
+        large("too-large-no-picture", Record { width: 1024, height: 1024, ..huge }, None),
+        no_job("record-short", DOCUMENT.bytes()[..31].to_vec()),
+        no_job("record-long", [DOCUMENT.bytes(), vec![0]].concat()),
+        no_job("record-empty", Vec::new()),
+        no_job("record-result", Record { direction: 2, angle: 1.5, ..DOCUMENT }.bytes()),
+        no_job("record-estimate", Record { estimate: 2.5, ..DOCUMENT }.bytes()),
+        no_job("record-width-0", Record { width: 0, ..DOCUMENT }.bytes()),
+        no_job("record-height-1025", Record { height: 1025, ..DOCUMENT }.bytes()),
+        no_job("record-length-13", Record { length: 13, ..DOCUMENT }.bytes()),
+        no_job("record-23-iterations", Record { iterations: 23, ..DOCUMENT }.bytes()),
+        no_job("record-q-65537", Record { q: 65537, ..DOCUMENT }.bytes()),
+        no_job("record-angle-infinite", Record { angle: f64::INFINITY, ..DOCUMENT }.bytes()),
+        no_job("record-filter-4", Record { filter: 4, ..DOCUMENT }.bytes()),
+        no_job("record-whole-job-angle", Record { angle: 0.75, ..whole(5, 1) }.bytes()),
+    ]
+}
+
+/// Writes a folder for each case: job.rec and picture.raw, unless they are missing, and expected.
+pub fn write(dir: &str) {
+    for case in [document(), filters(), refusals()].into_iter().flatten() {
+        let own = Path::new(dir).join(case.name);
+        std::fs::create_dir_all(&own).expect("a case has a folder");
+        for (file, bytes) in [("job.rec", &case.job), ("picture.raw", &case.picture), ("expected", &Some(case.expected))] {
+            if let Some(bytes) = bytes {
+                std::fs::write(own.join(file), bytes).expect("a case can be written");
+            }
+        }
+    }
+}

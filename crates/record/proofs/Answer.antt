@@ -1,11 +1,12 @@
 -- Laws of the answers: when fields are checked, a record is read, and a slice is written.
-use mathlib.Core.Path.{_≡_, sym, ap, _∙_}
+use mathlib.Core.Path.{_≡_, refl, sym, ap, _∙_}
 use mathlib.Core.Bool.{true, false}
 use mathlib.Core.List.{List, [], _++_}
-use Prim.Native.Nat.{ℕ}
+use Prim.Native.Nat.{ℕ, _≤_}
 use native.Mathlib.Nat.{le-of-eq}
 use native.Mathlib.Omega.{arith}
 use borrow.Author.Tests.{ne-eqb}
+use lib.Dec.{lit≤}
 use lib.ListN.{length, drop}
 use lib.Seq.{sets, sets-eq, drop-length}
 use lib.Ieee.Scale.{finite}
@@ -55,6 +56,10 @@ module _ (xs : List ℕ) where
 
 -- ---- writing
 
+pub encoded-length : (f : Fields) → length (encoded f) ≡ 32
+unfolding encoded bytesOf
+encoded-length f = refl
+
 -- 32 bytes, stored from place 0 on, are the whole slice
 pub stored-whole : (f : Fields) (old : List ℕ) → length old ≡ 32 → sets old 0 (encoded f) ≡ encoded f
 unfolding encoded bytesOf
@@ -89,3 +94,11 @@ module _ (r : Record) (old new : List ℕ) where
         go : (z : FieldsAnswer) → 0 ≡ writeNumber z → new ≡ writeBytes z old → new ≡ writeBytes z []
         go (Legal f) e b = b
         go Broken e b = absurd (omega (arith, e))
+
+-- 32 bytes, or none
+pub record-bytes-most : (r : Record) → length (writeBytes (recordFields r) []) ≤ 32
+record-bytes-most r = go (recordFields r)
+  where
+    go : (z : FieldsAnswer) → length (writeBytes z []) ≤ 32
+    go (Legal f) = le-of-eq (encoded-length f)
+    go Broken = lit≤ tt

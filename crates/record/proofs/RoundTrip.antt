@@ -22,7 +22,6 @@ use Rattle.raster.specs.declared.direction.RasterDirection4.{RasterDirection4}
 use Rattle.raster.specs.declared.direction.RasterDirection4.the-variants.{Horizontal, DownRight, Vertical, DownLeft}
 use Rattle.raster.specs.declared.border.LineBorderMode.{LineBorderMode}
 use Rattle.raster.specs.declared.border.LineBorderMode.the-variants.{Replicate, Reflect, Constant}
-use Rattle.record.specs.Bytes.{bytesOf}
 use Rattle.record.specs.Fields.{decoded, encoded, borderLegal, legal}
 use Rattle.record.specs.Record.{directionFrom, borderFrom, filterFrom, recordOf, borderCode, filterCode, isFactor, exactQ, filterQ, fieldsOf, checked, withQ, recordFields, readRecord, toWrite, writeNumber, writeBytes, Wrote}
 use Rattle.record.specs.declared.fields.Fields.{Fields}
@@ -32,7 +31,7 @@ use Rattle.record.specs.declared.RecordFilter.{RecordFilter}
 use Rattle.record.specs.declared.RecordFilter.the-variants.{Restoration, Unsharp, Binomial}
 use Rattle.record.specs.declared.Record.{Record}
 use Rattle.record.specs.declared.ReadAnswer.the-variants as answer
-use Rattle.record.proofs.Answer.{checked-legal, read-legal}
+use Rattle.record.proofs.Answer.{checked-legal, read-legal, encoded-length}
 use Rattle.record.proofs.Legal.{FilterSound, restoration, unsharp, binomial, sound}
 use Rattle.record.proofs.Doubles.{bits-back, factor-finite, factor-same}
 use Rattle.record.proofs.LittleEndian.{Bytes}
@@ -193,10 +192,6 @@ record-fields r f h = go (filterQ (r .filter)) refl
 never-read : (r : Record) → answer.Refused 13 ≡ answer.Record r → ⊥
 never-read r e = let z : _≡_ {A = ℕ} 0 1 = cc in omega arith
 
-length-encoded : (f : Fields) → length (encoded f) ≡ 32
-unfolding encoded bytesOf
-length-encoded f = refl
-
 to-write : (r : Record) (old : List ℕ) (f : Fields) → toWrite r old ≡ Legal f → recordFields r ≡ Legal f
 unfolding toWrite
 to-write r old f e = by-test (eqb (length old) 32) (λ l. rw l at e) (λ l. absurd (never-legal f (rw l at e)))
@@ -209,7 +204,7 @@ read-written r old new h w = go (toWrite r old) refl (w .answers) (w .bytes)
     legally f e =
         let p = record-fields r f h e in
         let d = decoded-encoded f (p .2) in
-        read-legal (encoded f) (length-encoded f) (ap legal d ∙ p .1) ∙ ap (λ (g : Fields). answer.Record (recordOf g)) d ∙ ap answer.Record (p .0)
+        read-legal (encoded f) (encoded-length f) (ap legal d ∙ p .1) ∙ ap (λ (g : Fields). answer.Record (recordOf g)) d ∙ ap answer.Record (p .0)
 
     go : (z : FieldsAnswer) → toWrite r old ≡ z → 0 ≡ writeNumber z → new ≡ writeBytes z old → readRecord new ≡ answer.Record r
     go (Legal f) e a b = rw b (legally f (to-write r old f e))

@@ -57,7 +57,7 @@ front-joined n e old ys h k same =
 
 -- ---- a tight picture
 
-length-tabulate : (f : ℕ → ℕ) (n : ℕ) → length (tabulate f n) ≡ n
+pub length-tabulate : (f : ℕ → ℕ) (n : ℕ) → length (tabulate f n) ≡ n
 unfolding tabulate
 length-tabulate f zero = refl
 length-tabulate f (suc n) = ap suc (length-tabulate (λ i. f (suc i)) n)

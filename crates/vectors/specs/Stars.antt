@@ -1,5 +1,5 @@
 -- Document 01's cases that are marked ★: all of them, in the document's order, are one list, and one theorem says that each has the value beside it. What a case has is
--- told by the definitions that the calls' contracts cite.
+-- told by the definitions that the calls' contracts cite, and the two are compared by `≡` alone: no test of our own stands between.
 use Prim.Native.Nat.{ℕ, zero, suc}
 use mathlib.Core.List.{List, [], _∷_, _++_, map}
 use mathlib.Core.Path.{_≡_, refl}

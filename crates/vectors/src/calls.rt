@@ -176,7 +176,7 @@ pub fn call(c: Case, source: &[u8], destination: &mut [u8]) -> Outcome {
     }
 }
 
-// The Rust has one error for what the document numbers 7 and 8.
+// The number as a case has it.
 fn rust_number(number: u8) -> u8 {
     if number == 8 { 7 } else { number }
 }

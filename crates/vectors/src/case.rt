@@ -1,7 +1,7 @@
 // A case of the list: 50 bytes of numbers, little-endian, then the source's bytes, then the destination's as the Rust leaves it.
 //
 //    0  the call: 0 from_angle, 1 direction, 2 length, 3 restoration, 4 line unsharp, 5 binomial
-//    1  the number of the refusal, 0 where the call is accepted
+//    1  the number of the refusal, 0 where the call is accepted; 7 for 8 too, since the Rust has one error for both
 //    2  the direction's number; for a length 1 where there is one
 //    3  border: 0 Replicate, 1 Reflect, 2 Constant; at 4 its value
 //    5  least amplitude of a swing

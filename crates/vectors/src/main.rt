@@ -1,7 +1,6 @@
 // Replays the Rust's answers: each case of the file `rust.vec` through the stage's own calls. `oracle/vectors` makes the file from the Rust
 // original. Prints each case that fails, and last how many passed and failed.
 ghost use Prim.Native.Nat.{_≤_};
-ghost use lib.ListN.{length};
 use crate::calls::agrees;
 use crate::calls::call;
 use crate::case::Case;

@@ -1,0 +1,3 @@
+-- The laws of `views`.
+pub mod FilterShape
+pub mod LineFilter

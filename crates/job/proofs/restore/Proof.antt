@@ -250,18 +250,20 @@ module _ {M : Type 1} (𝓤 : URA M) (H : Heap 𝓤) (A : Atoms 𝓤) (W : Given
 
     walk : (𝓣 : Tables 𝓤 H) → Known 𝓤 H A mem run 𝓣 → ent 𝓤 (onEntry 𝓤 H A f.signature (κ₀, (κ₁, (κ₂, (κ₃, tt)))) (q₀, (q₁, (q₂, (q₃, tt)))) a vals) (WpFn 𝓤 H (𝓣 .C) (𝓣 .Λ) code.function machine Post′)
     walk 𝓣 known =
-        qed W (Tokens ∷ Owned ∷ []) ∵ enter ! (𝓣 .C) (𝓣 .Λ) code.function machine _ $
+        qed W (Tokens ∷ Owned ∷ []) ∵
+        -- what is passed is taken apart
+        split ! $ move ! (1 ∷ []) $ split ! $ move ! (1 ∷ []) $ split ! $ move ! (1 ∷ []) $ split ! $ move ! (1 ∷ []) $ drop ! $
+        move ! (4 ∷ []) $ fsplit ! $ move ! (1 ∷ []) $ fsplit ! $ drop ! $ fsplit ! $ drop ! $ fsplit ! $ drop ! $ fsplit ! $ move ! (1 ∷ []) $ fsplit ! $ drop ! $ fsplit ! $ drop ! $ fsplit ! $ drop ! $ fsplit ! $ drop ! $
+        fsplit ! $ move ! (1 ∷ []) $ fsplit ! $ move ! (1 ∷ []) $ drop ! $
+        -- [swings; scratch; destination; source; the four tokens, the last first]
+        enter ! (𝓣 .C) (𝓣 .Λ) code.function machine _ $
         alloc1 ! (λ l₀. alloc1 ! (λ l₁. alloc1 ! (λ l₂. alloc1 ! (λ l₃. alloc1 ! (λ l₄. alloc1 ! (λ l₅. alloc1 ! (λ l₆. alloc1 ! (λ l₇. alloc1 ! (λ l₈. alloc1 ! (λ l₉. alloc1 ! (λ l₁₀. alloc1 ! (λ l₁₁. alloc1 ! (λ l₁₂. alloc1 ! (λ l₁₃. alloc1 ! (λ l₁₄. alloc1 ! (λ l₁₅. alloc1 ! (λ l₁₆. alloc1 ! (λ l₁₇. alloc1 ! (λ l₁₈. alloc1 ! (λ l₁₉. alloc1 ! (λ l₂₀. alloc1 ! (λ l₂₁. alloc1 ! (λ l₂₂. alloc0 ! $ params1 ! $
         pass1 ! (init ! 42 refl (shr-slice-lawful 𝓤 H A W (named 0) κ₀ u8 .typed source _ is-source .0)) $ pass1 ! (init ! 40 refl (uint-lawful 𝓤 H A W w64 .typed width _ is-width .0)) $ pass1 ! (init ! 38 refl (uint-lawful 𝓤 H A W w64 .typed height _ is-height .0)) $ pass1 ! (init ! 36 refl (uint-lawful 𝓤 H A W w64 .typed stride _ is-stride .0)) $ pass1 ! (init ! 34 refl (mut-slice-lawful 𝓤 H A W (named 1) κ₁ u8 .typed dst _ is-dst .0)) $ pass1 ! (init ! 32 refl (uint-lawful 𝓤 H A W w64 .typed dstWidth _ is-dst-width .0)) $ pass1 ! (init ! 30 refl (uint-lawful 𝓤 H A W w64 .typed dstHeight _ is-dst-height .0)) $ pass1 ! (init ! 28 refl (uint-lawful 𝓤 H A W w64 .typed dstStride _ is-dst-stride .0)) $ pass1 ! (init ! 26 refl (LL.lawful C.the-type C′.the-laws 𝓤 H A W .typed config _ is-config .0)) $ pass1 ! (init ! 24 refl (mut-slice-lawful 𝓤 H A W (named 2) κ₂ i32 .typed scratch _ is-scratch .0)) $ pass1 ! (init ! 22 refl (mut-slice-lawful 𝓤 H A W (named 3) κ₃ S.the-row .typed swings _ is-swings .0)) $ pass0 ! $
         assigns ! (of-opd ! (load ! (from ! (fld ! refl (stop !))) (look-in ! 34 (sub ! 1 refl (whole !))))) (from ! (stop !)) (init ! 16 refl (tt, record { fits = is-dst .0 .1 .0 })) $
         assigns ! (of-opd ! (load ! (from ! (fld ! refl (stop !))) (look-in ! 24 (sub ! 1 refl (whole !))))) (from ! (stop !)) (init ! 14 refl (tt, record { fits = is-scratch .0 .1 .0 })) $
         assigns ! (of-opd ! (load ! (from ! (fld ! refl (stop !))) (look-in ! 22 (sub ! 1 refl (whole !))))) (from ! (stop !)) (init ! 12 refl (tt, record { fits = is-swings .0 .1 .0 })) $
-        -- what is passed is taken apart
-        move ! (46 ∷ []) $ split ! $ move ! (1 ∷ []) $ split ! $ move ! (1 ∷ []) $ split ! $ move ! (1 ∷ []) $ split ! $ move ! (1 ∷ []) $ drop ! $
-        move ! (50 ∷ []) $ fsplit ! $ move ! (1 ∷ []) $ fsplit ! $ drop ! $ fsplit ! $ drop ! $ fsplit ! $ drop ! $ fsplit ! $ move ! (1 ∷ []) $ fsplit ! $ drop ! $ fsplit ! $ drop ! $ fsplit ! $ drop ! $ fsplit ! $ drop ! $
-        fsplit ! $ move ! (1 ∷ []) $ fsplit ! $ move ! (1 ∷ []) $ drop ! $
-        -- [swings; scratch; destination; source; the four tokens, the last first; _22 at 8; …]
-        move ! (3 ∷ 7 ∷ []) $ use2 W (raw (StartC 𝓤 H A mem run .pre to-start) ⊛ ‵ Source) asked-start $ split ! $
+        -- [_22 at 0; …; what is passed from 46 on]
+        move ! (49 ∷ 53 ∷ 46 ∷ 47 ∷ 48 ∷ 50 ∷ 51 ∷ 52 ∷ []) $ use2 W (raw (StartC 𝓤 H A mem run .pre to-start) ⊛ ‵ Source) asked-start $ split ! $
         -- [what the callee asks; source; swings; scratch; destination; tokens 3, 2, 1; _22 at 8; …]
         calls-at ! (fmOf 𝓤 H (W .laws) 𝓣) (StartC 𝓤 H A mem run) (known .starts) to-start (and-then ! (load ! (from ! (stop !)) (look ! 50 refl)) (and-then ! (load ! (from ! (stop !)) (look ! 48 refl)) (and-then ! (load ! (from ! (stop !)) (look ! 46 refl)) (and-then ! (load ! (from ! (stop !)) (look ! 44 refl)) (and-then ! (load ! (from ! (stop !)) (look ! 24 refl)) (and-then ! (load ! (from ! (stop !)) (look ! 40 refl)) (and-then ! (load ! (from ! (stop !)) (look ! 38 refl)) (and-then ! (load ! (from ! (stop !)) (look ! 36 refl)) (and-then ! (load ! (from ! (stop !)) (look ! 34 refl)) (and-then ! (load ! (from ! (stop !)) (look ! 22 refl)) (and-then ! (load ! (from ! (stop !)) (look ! 20 refl)) (no-more !)))))))))))) (λ v₁.
         answers ! tt start.ended (start.clauses 𝓤 H A mem run) to-start v₁ (λ r _. JobStarts job r) (λ r _. id⊢ 𝓤 _) (λ r₁ _ e₁ is₁.

@@ -165,7 +165,9 @@ fn refusals() -> Vec<Stored> {
 
 /// Writes a folder for each case: job.rec and picture.raw, unless they are missing, and expected.
 pub fn write(dir: &str) {
-    for case in [document(), filters(), refusals()].into_iter().flatten() {
+    let cases: Vec<Stored> = [document(), filters(), refusals()].into_iter().flatten().collect();
+    println!("{} cases of the program written to {dir}", cases.len());
+    for case in cases {
         let own = Path::new(dir).join(case.name);
         std::fs::create_dir_all(&own).expect("a case has a folder");
         for (file, bytes) in [("job.rec", &case.job), ("picture.raw", &case.picture), ("expected", &Some(case.expected))] {

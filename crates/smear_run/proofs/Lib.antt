@@ -3,5 +3,4 @@ pub mod Fronts
 pub mod Stages
 pub mod Printed
 pub mod Most
-pub mod Records
 pub mod Examples

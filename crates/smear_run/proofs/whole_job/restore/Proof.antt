@@ -44,6 +44,7 @@ use denote.Exit.{yes}
 use Rattle.blur.specs.declared.swings.Swing.{Swing}
 use Rattle.blur.proofs.Walk.Call.{answers}
 use Rattle.blur.proofs.Walk.Lend.{lends, ends-loan, big-lit}
+use Rattle.blur.proofs.Walk.LocalArray.{array-row, row-room, array-typed}
 use Rattle.blur.proofs.swings.Swing as S
 use Rattle.blur.proofs.swings.Swing.Laws as S′
 use Rattle.job.specs.Job.{Restored}
@@ -58,7 +59,6 @@ use Rattle.job.proofs.restore.Symbol as whole-job-def
 use Rattle.job.proofs.restore.Symbol.{name as #whole-job}
 use Rattle.job.proofs.restore.Met as whole-job-thm
 use Rattle.smear_run.specs.Parts.{Measured}
-use Rattle.smear_run.proofs.Records.{records-row, records-room, records-typed}
 use Rattle.smear_run.proofs.Stages.{measured-of}
 use Rattle.smear_run.proofs.whole_job.restore.Key.{name as #self}
 use Rattle.smear_run.proofs.whole_job.restore as f
@@ -194,7 +194,7 @@ module _ {M : Type 1} (𝓤 : URA M) (H : Heap 𝓤) (A : Atoms 𝓤) (W : Given
         qed W (Tokens ∷ Owned ∷ []) ∵ enter ! (𝓣 .C) (𝓣 .Λ) code.function machine _ $
         alloc1 ! (λ l₀. alloc1 ! (λ l₁. alloc1 ! (λ l₂. alloc1 ! (λ l₃. alloc1 ! (λ l₄. alloc1 ! (λ l₅. alloc1 ! (λ l₆. alloc1 ! (λ l₇. alloc1 ! (λ l₈. alloc1 ! (λ l₉. alloc1 ! (λ l₁₀. alloc1 ! (λ l₁₁. alloc1 ! (λ l₁₂. alloc1 ! (λ l₁₃. alloc1 ! (λ l₁₄. alloc0 ! $ params1 ! $
         pass1 ! (init ! 26 refl (shr-slice-lawful 𝓤 H A W (named 0) κ₀ u8 .typed source _ is-source .0)) $ pass1 ! (init ! 24 refl (uint-lawful 𝓤 H A W w64 .typed width _ is-width .0)) $ pass1 ! (init ! 22 refl (uint-lawful 𝓤 H A W w64 .typed height _ is-height .0)) $ pass1 ! (init ! 20 refl (mut-slice-lawful 𝓤 H A W (named 1) κ₁ u8 .typed dst _ is-dst .0)) $ pass1 ! (init ! 18 refl (LL.lawful C.the-type C′.the-laws 𝓤 H A W .typed config _ is-config .0)) $ pass1 ! (init ! 16 refl (mut-slice-lawful 𝓤 H A W (named 2) κ₂ i32 .typed scratch _ is-scratch .0)) $ pass1 ! (init ! 14 refl (LL.lawful S.the-type S′.the-laws 𝓤 H A W .typed none _ is-none .0)) $ pass0 ! $
-        assigns ! (rep ! size (load ! (from ! (stop !)) (look ! 14 refl))) (from ! (stop !)) (init ! 12 refl (records-typed 𝓤 H A W size none (swing-val none) is-none)) $
+        assigns ! (rep ! size (load ! (from ! (stop !)) (look ! 14 refl))) (from ! (stop !)) (init ! 12 refl (array-typed 𝓤 H A W S.the-row (LL.lawful S.the-type S′.the-laws 𝓤 H A W) size none (swing-val none) is-none)) $
         assigns ! (addr ! (from ! (fld ! refl (hop ! (look-in ! 20 (sub ! 0 refl (whole !))) (stop !))))) (from ! (stop !)) (init ! 10 refl (tt, tt)) $
         assigns ! (agg ! (and-then ! (load ! (from ! (stop !)) (look ! 10 refl)) (and-then ! (load ! (from ! (fld ! refl (stop !))) (look-in ! 20 (sub ! 1 refl (whole !)))) (no-more !)))) (from ! (stop !)) (init ! 8 refl (tt, (tt, (record { fits = is-dst .0 .1 .0 }, tt)))) $
         assigns ! (addr ! (from ! (fld ! refl (hop ! (look-in ! 16 (sub ! 0 refl (whole !))) (stop !))))) (from ! (stop !)) (init ! 6 refl (tt, tt)) $
@@ -202,7 +202,7 @@ module _ {M : Type 1} (𝓤 : URA M) (H : Heap 𝓤) (A : Atoms 𝓤) (W : Given
         assigns ! (addr ! (from ! (stop !))) (from ! (stop !)) (init ! 2 refl (tt, tt)) $
         assigns ! (agg ! (and-then ! (load ! (from ! (stop !)) (look ! 2 refl)) (and-then ! (big-lit ! (record { fits = lit< tt })) (no-more !)))) (from ! (stop !)) (init ! 0 refl (tt, (tt, (record { fits = lit< tt }, tt)))) $
         -- the array is a row, and is lent
-        move ! (12 ∷ []) $ records-row ! size none (swing-val none) l₈ is-none $
+        move ! (12 ∷ []) $ array-row ! S.the-row tt (LL.copy S.the-type S′.the-copy 𝓤 H A W) (LL.makes S.the-type S′.the-plain 𝓤 H A) size none (swing-val none) l₈ is-none $
         rewrite ! 1 (λ (k : ℕ). ‵ (fat fullShare slice-ty l₁₄ 0 (sliceVal (l₈, 0) k))) (sym (length-replicate size none)) refl $
         lends ! tt S.the-row (named 3) (replicate size none) l₈ 0 (roomy (replicate size none) (length-replicate size none)) (λ α δ.
         -- [the swings; their token; what is lent; _14 at 3; …]: what is passed is taken apart
@@ -220,7 +220,7 @@ module _ {M : Type 1} (𝓤 : URA M) (H : Heap 𝓤) (A : Atoms 𝓤) (W : Given
         move ! (3 ∷ 7 ∷ 0 ∷ []) $ ends-loan ! tt S.the-row (ws .1 .1 .1 .1 .1 .1 .1 .1 .1 .1 .0) (length (replicate size none)) l₈ 0 α δ $
         -- [the swings' row; the last scratch, destination; tokens 2, 1, 0; _14 at 6; …; that _8 dies; _7 at 19; …; _0 at 33]
         land ! (from ! (stop !)) (init ! 33 refl (EL.lawful J.the-type J′.the-laws 𝓤 H A W tt .typed r _ is .0)) $
-        records-room ! size l₈ (ws .1 .1 .1 .1 .1 .1 .1 .1 .1 .1 .0) (same-swings ∙ length-replicate size none) $
+        row-room ! S.the-row size l₈ (ws .1 .1 .1 .1 .1 .1 .1 .1 .1 .1 .0) (same-swings ∙ length-replicate size none) $
         returns ! (look ! 33 refl) $ forget ! 6 refl $ forget ! 8 refl $ forget ! 10 refl $ forget ! 12 refl $ forget ! 14 refl $ forget ! 16 refl $ forget ! 19 refl $ forget ! 21 refl $ forget ! 23 refl $ forget ! 25 refl $ forget ! 27 refl $ forget ! 29 refl $ forget ! 31 refl $ forget ! 33 refl $
         keep ! (33 ∷ 34 ∷ 31 ∷ 32 ∷ 29 ∷ 30 ∷ 27 ∷ 28 ∷ 25 ∷ 26 ∷ 23 ∷ 24 ∷ 21 ∷ 22 ∷ 19 ∷ 20 ∷ 0 ∷ 18 ∷ 16 ∷ 17 ∷ 14 ∷ 15 ∷ 12 ∷ 13 ∷ 10 ∷ 11 ∷ 8 ∷ 9 ∷ 6 ∷ 7 ∷ 5 ∷ 4 ∷ 3 ∷ 2 ∷ 1 ∷ []) $
         free1 ! $ free1 ! $ free1 ! $ free1 ! $ free1 ! $ free1 ! $ free1 ! $ free1 ! $ free1 ! $ free1 ! $ free1 ! $ free1 ! $ free1 ! $ free1 ! $ free1 ! $ free0 ! $

@@ -48,6 +48,7 @@ use Rattle.blur.specs.declared.length.LengthAnswer.{LengthAnswer}
 use Rattle.blur.specs.declared.swings.Swing.{Swing}
 use Rattle.blur.proofs.Walk.Call.{answers}
 use Rattle.blur.proofs.Walk.Lend.{lends, ends-loan}
+use Rattle.blur.proofs.Walk.LocalArray.{array-row, row-room, array-typed}
 use Rattle.blur.proofs.swings.Swing as S
 use Rattle.blur.proofs.swings.Swing.Laws as S′
 use Rattle.blur.proofs.length.LengthAnswer as R
@@ -56,7 +57,6 @@ use Rattle.blur.proofs.length.estimate_at as estimate
 use Rattle.blur.proofs.length.estimate_at.Symbol as estimate-def
 use Rattle.blur.proofs.length.estimate_at.Symbol.{name as #estimate}
 use Rattle.blur.proofs.length.estimate_at.Met as estimate-thm
-use Rattle.vectors.proofs.LocalArray.{array-row, row-room, array-typed}
 use Rattle.vectors.proofs.lengths.length_at.Key.{name as #self}
 use Rattle.vectors.proofs.lengths.length_at as self
 use Rattle.vectors.proofs.lengths.length_at.Statement as stated
@@ -163,7 +163,7 @@ module _ {M : Type 1} (𝓤 : URA M) (H : Heap 𝓤) (A : Atoms 𝓤) (W : Given
           assigns ! (addr ! (from ! (stop !))) (from ! (stop !)) (init ! 2 refl (tt, tt)) $
           assigns ! (agg ! (and-then ! (load ! (from ! (stop !)) (look ! 2 refl)) (and-then ! (lit ! tt) (no-more !)))) (from ! (stop !)) (init ! 0 refl (tt, (tt, (record { fits = lit< tt }, tt)))) $
           -- [_11 at 0; …; _i at 2 · (11 − i); …; room for _0 at 22; what is passed at 24]: the array becomes a row, and is lent
-          move ! (6 ∷ []) $ owned ! S.the-row (Is S.the-row) (LL.makes S.the-type S′.the-plain 𝓤 H A) empty _ is-empty $ array-row ! S.the-row tt (LL.copy S.the-type S′.the-copy 𝓤 H A W) size empty empty-val l₈ $
+          move ! (6 ∷ []) $ array-row ! S.the-row tt (LL.copy S.the-type S′.the-copy 𝓤 H A W) (LL.makes S.the-type S′.the-plain 𝓤 H A) size empty empty-val l₈ is-empty $
           move ! (25 ∷ []) $ fsplit ! $ move ! (26 ∷ []) $ split ! $
           keep ! (4 ∷ 0 ∷ 2 ∷ 5 ∷ 6 ∷ 7 ∷ 8 ∷ 9 ∷ 10 ∷ 11 ∷ 12 ∷ 13 ∷ 14 ∷ 15 ∷ 16 ∷ 17 ∷ 18 ∷ 19 ∷ 20 ∷ 21 ∷ 22 ∷ 23 ∷ 24 ∷ 25 ∷ 26 ∷ 27 ∷ []) $
           rewrite ! 3 (λ (k : ℕ). ‵ (fat fullShare slice-ty l₁₁ 0 (sliceVal (l₈, 0) k))) (sym (length-replicate size empty)) refl $

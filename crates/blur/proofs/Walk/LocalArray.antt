@@ -1,6 +1,5 @@
--- A local array `[x; n]` of any type that is copied and has one machine value u, as steps of `types.Kit`'s calculus: `blur/proofs/Walk/Lend` says the same of unsigned integers.
---     array-row        the array, once it is written, is a row, where x is owned at u
---     row-room         and at the end its memory is room again
+-- A local array `[x; n]` of any type that is copied and has one machine value u, as steps of `types.Kit`'s calculus. Once it is a row, `Lend` lends it.
+--     array-row        the array, once it is written, is a row.        row-room     and at the end its memory is room again
 --     array-typed      the array's machine value has its type
 -- Assumes `Given`.
 use mathlib.Core.Path.{_≡_, refl}
@@ -15,23 +14,25 @@ use mir.Val.{Val, WT, hasTy}
 use base.Fml.{fsep, fat, froom}
 use prog.Wp.{Heap}
 use ghost.Atoms.{Atoms}
-use types.Kit.{Goal, Given, Item, ‵, Seq, Step, step, _$_, move, use1, drop, rewrite, fsplit, fjoin, fpick, fpack, feqL, feqI}
+use types.Kit.{Goal, Given, Item, ‵, Step, step, _$_, move, use1, drop, rewrite, fsplit, fjoin, fpick, fpack, feqL, feqI}
 use types.Share.{arr-parts}
 use denote.RattleType.{RattleType}
 use denote.Shadow.{shadow}
-use denote.Laws.{Is, Copy, Lawful}
+use denote.Laws.{Is, Copy, Makes, Lawful}
 use denote.Memory.{shares, cellAt, partAt, partOf, lone}
 use denote.Array.{Array, arrayVal, array-repeat, array-lawful, each}
 use denote.ArrayMemory.{Single, array-apart, array-whole}
 use denote.Index.{row}
+use denote.Steps.{owned}
 
 module _ {M : Type 1} {𝓤 : URA M} {H : Heap 𝓤} {A : Atoms 𝓤} {K : Type 0} {W : Given 𝓤 H A} {Γ : List (Item 𝓤)} {G : Goal 𝓤 H} where
-  pub array-row : K → (R : RattleType) → Single (R .mir) → Copy 𝓤 H A R → (n : ℕ) (x : R .Denot) (u : Val) (b : ℕ)
-      → Step K W (‵ (row R fullShare (replicate n x) b 0) ∷ Γ) G (‵ (R .own x (u ∷ [])) ∷ ‵ (fat fullShare (tyArray (lone (R .mir)) n) b 0 (arrayVal (replicate n u))) ∷ Γ) G
+  pub array-row : K → (R : RattleType) → Single (R .mir) → Copy 𝓤 H A R → Makes 𝓤 H A R (Is R) → (n : ℕ) (x : R .Denot) (u : Val) (b : ℕ) → Is R x (u ∷ [])
+      → Step K W (‵ (row R fullShare (replicate n x) b 0) ∷ Γ) G (‵ (fat fullShare (tyArray (lone (R .mir)) n) b 0 (arrayVal (replicate n u))) ∷ Γ) G
   unfolding partOf
-  array-row t R single copy n x u b = step (λ s.
-      use1 W (‵ (Array R n .own (replicate n x) (arrayVal (replicate n u) ∷ []))) (array-repeat 𝓤 H A W R copy n x u) $ move t (1 ∷ []) $
-      use1 W (‵ (cellAt fullShare (tyArray (lone (R .mir)) n ∷ []) (arrayVal (replicate n u) ∷ []) b 0)) (W .laws .at-raw fullShare (tyArray (lone (R .mir)) n) b 0 (arrayVal (replicate n u))) $ fjoin t $
+  array-row t R single copy makes n x u b is = step (λ s.
+      use1 W (‵ (cellAt fullShare (tyArray (lone (R .mir)) n ∷ []) (arrayVal (replicate n u) ∷ []) b 0)) (W .laws .at-raw fullShare (tyArray (lone (R .mir)) n) b 0 (arrayVal (replicate n u))) $
+      owned t R (Is R) makes x (u ∷ []) is $
+      use1 W (‵ (Array R n .own (replicate n x) (arrayVal (replicate n u) ∷ []))) (array-repeat 𝓤 H A W R copy n x u) $ move t (1 ∷ 0 ∷ []) $ fjoin t $
       fpack t (List Val) (λ us. fsep (cellAt fullShare (tyArray (lone (R .mir)) n ∷ []) us b 0) (Array R n .own (replicate n x) us)) (arrayVal (replicate n u) ∷ []) $
       use1 W (‵ (arr-parts (shares R) n .part fullShare (replicate n x) b 0)) (array-apart 𝓤 H A W R fullShare single n (replicate n x) b 0) $ fsplit t $ drop t $ s)
 

@@ -3,7 +3,7 @@
 //! that of the thread, so that of other work on the machine only what it does to the caches counts.
 
 #[allow(dead_code)]
-#[path = "../../oracle/src/ffi.rs"]
+#[path = "../../bindings/src/raw.rs"]
 mod ffi;
 #[allow(dead_code)]
 #[path = "../../oracle/src/random.rs"]

@@ -1,6 +1,7 @@
 //! Measuring a line smear: its direction and its length.
 
-use crate::ffi::{self, Swing};
+use crate::ffi;
+use crate::raw::Swing;
 use crate::view::Gray8View;
 
 /// One of the four directions of a line of pixels.

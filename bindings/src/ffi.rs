@@ -1,15 +1,8 @@
 //! crates/smear_c/include/smear.h, with slices in place of pointers. All `unsafe` of the crate is here: each call passes a slice as its
 //! pointer and length and writes to nothing else, which is what the header asks.
 
+use crate::raw::{self, Swing};
 use crate::view::{Gray8View, Gray8ViewMut};
-
-/// `smear_swing`.
-#[repr(C)]
-#[derive(Clone, Copy, Debug, Default)]
-pub struct Swing {
-    width: f64,
-    swing: i32,
-}
 
 /// A line filter's settings, as the header orders them.
 #[derive(Clone, Copy)]
@@ -19,60 +12,6 @@ pub struct Filter {
     pub iterations: usize,
     pub factor: f64,
     pub border: (u8, u8),
-}
-
-mod raw {
-    use super::Swing;
-
-    extern "C" {
-        pub fn smear_direction_from_angle(angle: f64) -> u8;
-
-        pub fn smear_estimate_line_direction(
-            src: *const u8, src_len: usize, width: usize, height: usize, stride: usize,
-            direction: *mut u8, a: *mut i64, c: *mut i64, e: *mut i64,
-        ) -> u8;
-
-        pub fn smear_estimate_line_length(
-            src: *const u8, src_len: usize, width: usize, height: usize, stride: usize,
-            angle: f64, minimum_transitions: usize, minimum_amplitude: u8,
-            swings: *mut Swing, swings_len: usize, length: *mut f64,
-        ) -> u8;
-
-        pub fn smear_fixed_binomial_unsharp(
-            src: *const u8, src_len: usize, width: usize, height: usize, stride: usize,
-            dst: *mut u8, dst_len: usize, dst_width: usize, dst_height: usize, dst_stride: usize,
-            scratch: *mut u16, scratch_len: usize,
-        ) -> u8;
-
-        pub fn smear_van_cittert_line(
-            src: *const u8, src_len: usize, width: usize, height: usize, stride: usize,
-            dst: *mut u8, dst_len: usize, dst_width: usize, dst_height: usize, dst_stride: usize,
-            angle: f64, blur_length: usize, iterations: usize, relaxation: f64, border: u8, border_value: u8,
-            scratch: *mut i32, scratch_len: usize, direction: *mut u8,
-        ) -> u8;
-
-        pub fn smear_van_cittert_estimate(
-            src: *const u8, src_len: usize, width: usize, height: usize, stride: usize,
-            dst: *mut i32, dst_len: usize,
-            angle: f64, blur_length: usize, iterations: usize, relaxation: f64, border: u8, border_value: u8,
-            scratch: *mut i32, scratch_len: usize, direction: *mut u8,
-        ) -> u8;
-
-        pub fn smear_directional_unsharp_line(
-            src: *const u8, src_len: usize, width: usize, height: usize, stride: usize,
-            dst: *mut u8, dst_len: usize, dst_width: usize, dst_height: usize, dst_stride: usize,
-            angle: f64, blur_length: usize, gain: f64, border: u8, border_value: u8,
-            scratch: *mut i32, scratch_len: usize, direction: *mut u8,
-        ) -> u8;
-
-        pub fn smear_restore(
-            src: *const u8, src_len: usize, width: usize, height: usize, stride: usize,
-            dst: *mut u8, dst_len: usize, dst_width: usize, dst_height: usize, dst_stride: usize,
-            minimum_transitions: usize, minimum_amplitude: u8, iterations: usize, relaxation: f64, border: u8, border_value: u8,
-            scratch: *mut i32, scratch_len: usize, swings: *mut Swing, swings_len: usize,
-            direction: *mut u8, blur_length: *mut usize, estimate: *mut f64,
-        ) -> u8;
-    }
 }
 
 pub fn direction_from_angle(angle: f64) -> u8 {

@@ -3,7 +3,8 @@
 use crate::blur::RasterDirection4;
 use crate::deblur::{DeblurWorkspace, LineBorderMode};
 use crate::error::{answer, ImgProcResult};
-use crate::ffi::{self, Filter, Swing};
+use crate::ffi::{self, Filter};
+use crate::raw::Swing;
 use crate::view::{Gray8View, Gray8ViewMut};
 
 /// Settings of the whole job.

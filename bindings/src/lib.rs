@@ -21,6 +21,8 @@ mod error;
 #[allow(unsafe_code)]
 mod ffi;
 pub mod job;
+#[allow(dead_code)] // all that the header declares
+mod raw;
 pub mod sharpen;
 mod view;
 

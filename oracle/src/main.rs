@@ -6,6 +6,7 @@ mod binomial;
 mod case;
 mod cases;
 mod direction;
+#[path = "../../bindings/src/raw.rs"]
 mod ffi;
 mod job;
 mod length;

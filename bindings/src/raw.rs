@@ -1,8 +1,8 @@
-//! The C interface of the proved library: crates/smear_c/include/smear.h, declared again.
+//! The C interface of the proved library: crates/smear_c/include/smear.h, declared again. The comparison and the bench use this file too.
 
 /// `smear_swing`.
 #[repr(C)]
-#[derive(Clone, Copy, Debug, PartialEq)]
+#[derive(Clone, Copy, Debug, Default, PartialEq)]
 pub struct Swing {
     pub width: f64,
     pub swing: i32,

@@ -17,7 +17,7 @@ use contract.Lifetimes.{Lfts, Shares}
 use contract.Running.{Running, GhostRules, givenOf, tables, tablesOf}
 use types.Kit.{Given, ‵, raw, _⊛_, given, ⋆, some, later, _$_, _∵_, !, qed, by, move, keep, drop, use1, use2, split, join, learn, pick, fsplit, fjoin, feqL, suffices, frame, await, done}
 use types.Part.{agg, whole, sub, look-in}
-use types.Run.{look, init, forget, stop, hop, fld, from, load, addr, of-opd, and-then, no-more, assigns, land, returns, enter, alloc1, alloc0, params1, pass1, pass0, free1, free0}
+use types.Run.{look, init, stop, hop, fld, from, load, addr, of-opd, and-then, no-more, assigns, land, returns, enter, alloc1, alloc0, params1, pass1, pass0}
 use sound.WpLaws.{FmC, fmOf, WpFn-mono}
 use denote.RattleType.{owns}
 use denote.Laws.{Is, Typed, shows}
@@ -41,6 +41,7 @@ use denote.Exit.{yes}
 use denote.Triple.Clauses.{AtExit, atExit, closing, ensured, lasts}
 use denote.Struct.Laws as LL
 use denote.Enum.Laws as EL
+use Rattle.blur.proofs.Walk.Free.{frees-all}
 use Rattle.image.specs.declared.view.Gray8View.{Gray8View}
 use Rattle.image.proofs.view.Gray8View as T0
 use Rattle.image.proofs.view.Gray8View.Laws as T0′
@@ -247,9 +248,7 @@ module _ (s : Settings) (sl : SettingsLaws s) where
             drop ! $ fsplit ! $ fsplit ! $ move ! (1 ∷ []) $ feqL ! (λ l-scratch. move ! (1 ∷ []) $ drop ! $ move ! (2 ∷ []) $ split ! $ move ! (1 ∷ []) $
             -- [R; T; fin-scratch; fin-dst-data; what is said; K; _15 at 6; …]
             peeks ! T3.the-row (Is T3.the-row) (shows 𝓤 H A T3.the-row) res′ (val′ ∷ []) (λ is′. land ! (from ! (stop !)) (init ! 36 refl ((EL.lawful T3.the-type T3′.the-laws 𝓤 H A W tt) .typed res′ _ is′ .0)) $
-            returns ! (look ! 36 refl) $ forget ! 6 refl $ forget ! 8 refl $ forget ! 10 refl $ forget ! 12 refl $ forget ! 14 refl $ forget ! 16 refl $ forget ! 18 refl $ forget ! 20 refl $ forget ! 22 refl $ forget ! 24 refl $ forget ! 26 refl $ forget ! 28 refl $ forget ! 30 refl $ forget ! 32 refl $ forget ! 34 refl $ forget ! 36 refl $
-            move ! (36 ∷ 37 ∷ []) $ free1 ! $ move ! (34 ∷ 35 ∷ []) $ free1 ! $ move ! (32 ∷ 33 ∷ []) $ free1 ! $ move ! (30 ∷ 31 ∷ []) $ free1 ! $ move ! (28 ∷ 29 ∷ []) $ free1 ! $ move ! (26 ∷ 27 ∷ []) $ free1 ! $ move ! (24 ∷ 25 ∷ []) $ free1 ! $ move ! (22 ∷ 23 ∷ []) $ free1 ! $ move ! (20 ∷ 21 ∷ []) $ free1 ! $ move ! (18 ∷ 19 ∷ []) $ free1 ! $ move ! (16 ∷ 17 ∷ []) $ free1 ! $ move ! (14 ∷ 15 ∷ []) $ free1 ! $ move ! (12 ∷ 13 ∷ []) $ free1 ! $ move ! (10 ∷ 11 ∷ []) $ free1 ! $ move ! (8 ∷ 9 ∷ []) $ free1 ! $ move ! (6 ∷ 7 ∷ []) $ free1 ! $ free0 ! $
-            keep ! (4 ∷ 1 ∷ 3 ∷ 2 ∷ 0 ∷ 5 ∷ []) $ by ! (exits res′ val′ (ws′ .1 .1 .1 .1 .0) (ws′ .1 .1 .1 .1 .1 .1 .1 .1 .1 .0) l-dst-data l-scratch)))))))))))))))))))))))
+            returns ! (look ! 36 refl) $ keep ! (36 ∷ 37 ∷ 34 ∷ 35 ∷ 32 ∷ 33 ∷ 30 ∷ 31 ∷ 28 ∷ 29 ∷ 26 ∷ 27 ∷ 24 ∷ 25 ∷ 22 ∷ 23 ∷ 20 ∷ 21 ∷ 18 ∷ 19 ∷ 16 ∷ 17 ∷ 14 ∷ 15 ∷ 12 ∷ 13 ∷ 10 ∷ 11 ∷ 8 ∷ 9 ∷ 6 ∷ 7 ∷ 4 ∷ 1 ∷ 3 ∷ 2 ∷ 0 ∷ 5 ∷ []) $ frees-all ! [] _ _ $ by ! (exits res′ val′ (ws′ .1 .1 .1 .1 .0) (ws′ .1 .1 .1 .1 .1 .1 .1 .1 .1 .0) l-dst-data l-scratch)))))))))))))))))))))))
 
   pub line-filter : {M : Type 1} (𝓤 : URA M) (H : Heap 𝓤) (𝓜 : Model 𝓤 H) (𝓖 : GhostRules 𝓤 H) (𝓡 : Running 𝓤 H 𝓜) (E : CalleeEnsures 𝓤) (E′ : Ensures 𝓤) (env : Env) (name #callee : Name) (routine : Routine)
       → Closed 𝓤 H (tables 𝓤 H 𝓜 𝓡 env .C) (tables 𝓤 H 𝓜 𝓡 env .Λ) name (code (s .ty) #callee) → env #callee ≡ routine → Triple 𝓤 (𝓡 .run routine) (Callee 𝓤 H (𝓖 .A) E) → Passes 𝓤 E E′

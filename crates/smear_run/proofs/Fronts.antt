@@ -1,5 +1,5 @@
 -- Bytes at the front of a slice, and a tight picture as a list.
-use mathlib.Core.Path.{_≡_, refl, sym, ap, _∙_, subst}
+use mathlib.Core.Path.{_≡_, refl, sym, ap, _∙_}
 use mathlib.Core.Bool.{true}
 use mathlib.Core.List.{List, [], _∷_, _++_, append-assoc}
 use Prim.Native.Nat.{ℕ, zero, suc, _+_, _-_, _*_, _/_, _%_, _≤_, _<_}
@@ -7,26 +7,19 @@ use native.Mathlib.Nat.{not-suc-le-zero, le-of-suc-le-suc, zero-mul}
 use native.Mathlib.Omega.{arith}
 use borrow.Author.Tests.{lt-ltb, le-ltb}
 use lib.ListN.{length, getD, take, drop, length-append, length-take}
-use lib.Seq.{take-all, take-take, take-at, take-append-le, length-take-le, ext-getD}
+use lib.Seq.{take-at, length-take-le, ext-getD}
 use Rattle.numbers.specs.Written.{Painted, pixels, front}
 use Rattle.numbers.proofs.Places.{front-iff}
 use Rattle.deblur.proofs.PictureLaws.{pixels-tight}
 use Rattle.smear_run.specs.Output.{refusedText, tabulate, pixelsOf}
 use Rattle.smear_run.specs.Parts.{Front}
 
-module _ {xs new : List ℕ} {n : ℕ} where
-  -- all of it was copied to the front
-  pub front-copied : (old : List ℕ) → n ≡ length xs → new ≡ take n xs ++ drop n old → Front xs new n
-  front-copied old e h =
-      let all : take n xs ≡ xs = take-all n xs (omega arith) in
-      record { count = e; bytes = rw (h, all) (take-at xs (drop n old) n (sym e)) }
-
-  -- a front fits
-  pub front-fits : Front xs new n → n ≤ length new
-  front-fits f =
-      let e : length (take n new) ≡ n = ap length (f .bytes) ∙ sym (f .count) in
-      let m = length-take n new in
-      omega arith
+-- a front fits
+pub front-fits : {xs new : List ℕ} {n : ℕ} → Front xs new n → n ≤ length new
+front-fits {new = new} {n} f =
+    let e : length (take n new) ≡ n = ap length (f .bytes) ∙ sym (f .count) in
+    let m = length-take n new in
+    omega arith
 
 -- the text of a refusal: a number of one digit, or of two
 abbrev pub oneDigit : ℕ → List ℕ

@@ -1,7 +1,6 @@
 -- The program never prints more than 4,128 bytes: `run` with that much room never refuses.
-use mathlib.Core.Path.{_≡_, refl, ap, _∙_, subst, sym}
 use mathlib.Core.Bool.{Bool, true, false, cond}
-use mathlib.Core.List.{List, [], _∷_, _++_}
+use mathlib.Core.List.{List, [], _∷_}
 use Prim.Native.Nat.{ℕ, zero, suc, _+_, _*_, _/_, _%_, _≤_}
 use native.Mathlib.Omega.{arith}
 use borrow.Author.Tests.{ltb-true, ltb-false}
@@ -14,7 +13,7 @@ use Rattle.record.specs.declared.ReadAnswer.{ReadAnswer}
 use Rattle.record.specs.declared.ReadAnswer.the-variants as read
 use Rattle.record.proofs.Answer.{record-bytes-most}
 use Rattle.smear_run.specs.Stage.{Outcome, done, refused, stage}
-use Rattle.smear_run.specs.Output.{refusedText, tooLarge, pixelsOf, orRefused, printed, jobOutput, outputOf, output}
+use Rattle.smear_run.specs.Output.{refusedText, pixelsOf, orRefused, printed, jobOutput, outputOf, output}
 use Rattle.smear_run.proofs.Fronts.{length-tabulate}
 use Rattle.smear_run.proofs.Printed.{no-job, too-large, of-stage}
 

@@ -27,7 +27,7 @@ use Rattle.job.specs.declared.JobResult.{JobResult}
 use Rattle.job.proofs.Plans.{plan-accepted, plan-length}
 use Rattle.record.specs.declared.Record.{Record}
 use Rattle.record.specs.declared.RecordFilter.the-variants.{Restoration, Unsharp, Binomial}
-use Rattle.smear_run.specs.Stage.{Outcome, done, refused, unless, withDirection, jobResult, restorationConfig, unsharpConfig, wholeJobConfig, lineStage, planned, jobStage, wholeJob, binomialStage, stage}
+use Rattle.smear_run.specs.Stage.{Outcome, done, refused, unless, withDirection, restorationConfig, unsharpConfig, wholeJobConfig, lineStage, planned, jobStage, wholeJob, binomialStage, stage}
 use Rattle.smear_run.specs.Output.{refusedText, orRefused, thenRecord, printed}
 use Rattle.smear_run.specs.Parts.{lineAnswer, jobAnswer, binomialAnswer, Filtered, Measured, finished}
 use Rattle.smear_run.specs.declared.filters.FilterAnswer.{FilterAnswer}

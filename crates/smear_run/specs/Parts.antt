@@ -1,7 +1,7 @@
 -- What the parts of the program's work state. Only contracts inside the crate cite these.
 use mathlib.Core.Path.{_≡_}
 use mathlib.Core.List.{List}
-use Prim.Native.Nat.{ℕ, _*_}
+use Prim.Native.Nat.{ℕ}
 use lib.ListN.{length, take}
 use Rattle.numbers.specs.Written.{Painted}
 use Rattle.deblur.specs.declared.RestorationAnswer.{RestorationAnswer}

@@ -1,6 +1,6 @@
 // The filters of a record on a tight picture of at most 4,096 pixels. Each owns its scratch.
 ghost use mathlib.Core.Path.{_≡_};
-ghost use Prim.Native.Nat.{_*_, _≤_};
+ghost use Prim.Native.Nat.{_*_};
 ghost use lib.ListN.{length};
 ghost use Rattle.deblur.specs.Settings.{restorationOf, unsharpOf};
 ghost use Rattle.smear_run.specs.Stage.{restorationConfig, unsharpConfig, usedIn, lineStage, binomialStage, stage};
@@ -14,7 +14,7 @@ use record::Record;
 use record::RecordFilter;
 use sharpen::SharpenAnswer;
 
-pub enum FilterAnswer {
+pub(crate) enum FilterAnswer {
     // The result's record.
     Done(Record),
     Refused(u8),

@@ -1,6 +1,6 @@
 -- `smear_run::filters::binomial_answer` meets its contract.
 use borrow.Author.Needs.{needs}
-use mathlib.Core.Path.{sym, ap, _∙_}
+use mathlib.Core.Path.{sym, ap}
 use Rattle.smear_run.specs.Parts.{binomialAnswer}
 use Rattle.smear_run.proofs.filters.binomial_answer.Statement.{statement}
 use Rattle.smear_run.proofs.filters.binomial_answer.Tie as tie

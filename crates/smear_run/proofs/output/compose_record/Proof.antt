@@ -3,7 +3,7 @@ use borrow.Author.Needs.{needs}
 use borrow.Author.Tests.{not-true, not-false}
 use Rattle.smear_run.proofs.Stages.{area-fits}
 use Rattle.smear_run.proofs.Printed.{no-job, too-large, of-stage, stage-printed}
-use mathlib.Core.Path.{sym, _∙_, ap}
+use mathlib.Core.Path.{sym, _∙_}
 use native.Mathlib.Omega.{arith}
 use lib.Seq.{length-take-le}
 use Rattle.smear_run.proofs.output.compose_record.Statement.{statement}

@@ -4,7 +4,7 @@ use mathlib.Core.Bool.{Bool, true, false, cond}
 use mathlib.Core.List.{List, [], _∷_, map}
 use Prim.Native.Nat.{ℕ, zero, suc, _<_}
 use native.Mathlib.Omega.{arith}
-use lib.ListN.{length, getD}
+use lib.ListN.{length, getD, take}
 use Rattle.blur.specs.Median.{insert, sort}
 use Rattle.blur.specs.Select.{Each}
 
@@ -17,6 +17,11 @@ module _ {A : Type 0} (P : A → Type 0) where
   each-at [] k d e h = absurd (omega arith)
   each-at (x ∷ l) zero d e h = e .0
   each-at (x ∷ l) (suc k) d e h = each-at l k d (e .1) (omega arith)
+
+  pub each-take : (n : ℕ) (l : List A) → Each P l → Each P (take n l)
+  each-take zero l e = tt
+  each-take (suc n) [] e = tt
+  each-take (suc n) (x ∷ l) e = (e .0, each-take n l (e .1))
 
   each-pick : (b : Bool) (l r : List A) → Each P l → Each P r → Each P (cond b l r)
   each-pick true l r e f = e

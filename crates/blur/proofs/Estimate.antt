@@ -6,7 +6,6 @@ use Prim.Native.Nat.{ℕ, _*_, _≤_, _<_}
 use native.Mathlib.Nat.{mul-le-mul}
 use native.Mathlib.Omega.{arith}
 use lib.Dec.{T}
-use lib.IntN.{ℤ}
 use lib.Ieee.{isNan}
 use lib.ListN.{length, take}
 use borrow.Author.Tests.{eq-eqb, ne-eqb}
@@ -20,9 +19,9 @@ use Rattle.blur.specs.declared.length.LengthAnswer.{LengthAnswer}
 use Rattle.blur.specs.declared.length.LengthAnswer.the-variants.{Length, Refused}
 use Rattle.blur.specs.Scan.{rest, begun, Filled}
 use Rattle.blur.specs.Median.{strongest, lengthOf}
-use Rattle.blur.specs.Select.{Widths, Starts, Opens, Selectable}
+use Rattle.blur.specs.Select.{Widths, started, Selectable}
 use Rattle.blur.specs.Length.{lengthRefusal, lengthAlong, lengthAnswer, courseOf, Estimated}
-use Rattle.blur.proofs.Spans.{span-numbers, shared-digits}
+use Rattle.blur.proofs.Spans.{span-numbers}
 use Rattle.blur.proofs.Courses.{length-laid, enough-lent, pixels-fit, course-length, course-few, course-widths}
 
 -- the two cases of an answer differ
@@ -63,8 +62,11 @@ module _ (bytes : List ℕ) (w h stride : ℕ) (d : RasterDirection4) (m a : ℕ
       front : take (s .count) zs ≡ all
       front = ap (λ (k : ℕ). take k zs) (f .counted) ∙ f .listed
 
-      pub within-lent : length zs ≡ length ys → s .count ≤ length zs
-      within-lent k = omega (arith, f .counted, all-lent)
+      front-is : (p : Pass) → p ≡ started (s .strongest) (s .span) (s .count) → take (p .total) zs ≡ all
+      front-is p q = ap (λ (a : Pass). take (a .total) zs) q ∙ front
+
+      pub within-lent : (p : Pass) → p ≡ started (s .strongest) (s .span) (s .count) → length zs ≡ length ys → p .total ≤ length zs
+      within-lent p q k = omega (arith, ap (λ (a : Pass). a .total) q, f .counted, all-lent)
 
       widths : Widths all
       widths = course-widths bytes (length ys) w h stride d m a e (f .are)
@@ -73,24 +75,23 @@ module _ (bytes : List ℕ) (w h stride : ℕ) (d : RasterDirection4) (m a : ℕ
       pub numbers : T (not (isNan (s .span .least))) × T (not (isNan (s .span .greatest)))
       numbers = subst (λ (r : Span). T (not (isNan (r .least))) × T (not (isNan (r .greatest)))) (sym (f .span)) (span-numbers all widths)
 
-      pub selectable : (p : Pass) → Opens (s .strongest) (s .span) p → Selectable (take (s .count) zs) p
+      pub selectable : (p : Pass) → p ≡ started (s .strongest) (s .span) (s .count) → Selectable (take (p .total) zs) p
       selectable p q =
-          subst (λ (l : List Swing). Selectable l p) (sym front)
+          subst (λ (l : List Swing). Selectable l p) (sym (front-is p q))
           (record {
-            starts = subst (λ (z : ℤ). Starts z p) (f .top) (q .starts);
-            same = shared-digits all widths p (rw (f .span) at (q .least)) (rw (f .span) at (q .greatest));
+            starts = q ∙ (λ i. started (f .top i) (f .span i) (f .counted i));
             widths = widths;
             few = omega (arith, course-few bytes (length ys) w h stride d m a e, pixels-fit (length-laid (length bytes) w h stride (length ys) e));
           })
 
-      pub estimated-length : (r : LengthAnswer) → r ≡ Length (lengthOf (take (s .count) zs) m) → Estimated bytes w h stride d m a ys zs r
+      pub estimated-length : (p : Pass) → p ≡ started (s .strongest) (s .span) (s .count) → (r : LengthAnswer) → r ≡ Length (lengthOf (take (p .total) zs) m) → Estimated bytes w h stride d m a ys zs r
       unfolding lengthAnswer
-      estimated-length r q =
+      estimated-length p is r q =
           record {
             answer =
                 q
-                ∙ ap (λ (l : List Swing). Length (lengthOf l m)) front
+                ∙ ap (λ (l : List Swing). Length (lengthOf l m)) (front-is p is)
                 ∙ ap Length (course-length bytes (length ys) w h stride d m a e)
                 ∙ ap (λ (t : Bool). cond t (Length (lengthAlong bytes w h stride d m a)) (Refused number)) (sym (eq-eqb number 0 e));
-            untouched = λ k z. absurd (not-refused (lengthOf (take (s .count) zs) m) k (sym q ∙ z));
+            untouched = λ k z. absurd (not-refused (lengthOf (take (p .total) zs) m) k (sym q ∙ z));
           }

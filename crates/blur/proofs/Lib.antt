@@ -21,6 +21,7 @@ pub mod Same
 pub mod SameLength
 pub mod SameSwings
 pub mod Scans
+pub mod Selected
 pub mod Small
 pub mod Spans
 pub mod Steps

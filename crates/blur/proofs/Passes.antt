@@ -2,28 +2,55 @@
 use mathlib.Core.Path.{_≡_, refl, sym, ap, _∙_, subst}
 use mathlib.Core.Bool.{Bool, true, false, cond, _&&_}
 use mathlib.Core.List.{List, [], _∷_, _++_, map}
-use Prim.Native.Nat.{ℕ, suc, _+_, _*_, _/_, _%_, _^_, _<_}
+use Prim.Native.Nat.{ℕ, suc, _+_, _*_, _/_, _%_, _^_, _≤_, _<_}
 use native.Mathlib.Nat.{add-zero, add-assoc, mod-lt}
 use native.Mathlib.Omega.{arith}
 use lib.Dec.{eqb, lit<}
 use lib.IntN.{ℤ}
-use lib.ListN.{length, getD, set, take, length-set}
+use lib.ListN.{length, getD, set, take, length-set, length-map}
 use lib.Seq.{getD-set-same, getD-set-other, take-suc}
-use lib.Ieee.{binary64, toBits}
+use lib.Ieee.{Float, binary64, toBits}
+use lib.Ieee.Bits.{toBits-lt}
 use borrow.Author.Tests.{eq-eqb, ne-eqb, eqb-true, eqb-false}
 use Rattle.blur.specs.declared.swings.Swing.{Swing}
 use Rattle.blur.specs.declared.select.Pass.{Pass}
 use Rattle.blur.specs.Median.{stays, kept}
-use Rattle.blur.specs.Select.{high, counted, passed, tallied, passAll, tallyAll}
+use Rattle.blur.specs.Select.{high, counted, passed, tallied, passAll, tallyAll, Each, Positive, Widths}
 use Rattle.blur.proofs.Place.{bit, count}
 use Rattle.blur.proofs.Radix.{having}
 
 abbrev pub keys : ℤ → List Swing → List ℕ
 keys top l = map (toBits binary64) (kept top l)
 
+pub kept-positive : (top : ℤ) (l : List Swing) → Widths l → Each (Positive binary64) (kept top l)
+kept-positive top [] e = tt
+kept-positive top (s ∷ l) e = go (stays top s) (kept-positive top l (e .1))
+  where
+    go : (b : Bool) → Each (Positive binary64) (kept top l) → Each (Positive binary64) (cond b (s .width ∷ kept top l) (kept top l))
+    go true r = (e .0, r)
+    go false r = r
+
+bits-lt : (ws : List Float) → Each (Positive binary64) ws → Each (_< 2 ^ 64) (map (toBits binary64) ws)
+bits-lt [] e = tt
+bits-lt (x ∷ ws) e = (toBits-lt binary64 x (e .0 .holds), bits-lt ws (e .1))
+
+pub keys-lt : (top : ℤ) (l : List Swing) → Widths l → Each (_< 2 ^ 64) (keys top l)
+keys-lt top l e = bits-lt (kept top l) (kept-positive top l e)
+
+pub length-keys : (top : ℤ) (l : List Swing) → length (keys top l) ≡ length (kept top l)
+length-keys top l = length-map (kept top l) (toBits binary64)
+
+pub length-kept : (top : ℤ) (l : List Swing) → length (kept top l) ≤ length l
+length-kept top [] = omega arith
+length-kept top (s ∷ l) = go (stays top s) (length-kept top l)
+  where
+    go : (b : Bool) → length (kept top l) ≤ length l → length (cond b (s .width ∷ kept top l) (kept top l)) ≤ suc (length l)
+    go true h = omega arith
+    go false h = omega arith
+
 -- ---- the state: only its count changes
 abbrev pub withCount : Pass → ℕ → Pass
-withCount a n = record { on = a .on; strongest = a .strongest; prefix = a .prefix; shift = a .shift; place = a .place; kept = a .kept; count = n }
+withCount a n = record { left = a .left; total = a .total; reach = a .reach; low = a .low; high = a .high; strongest = a .strongest; prefix = a .prefix; shift = a .shift; place = a .place; kept = a .kept; count = n }
 
 passed-is : (s : Swing) (a : Pass) (n : ℕ) → passed s (withCount a n) ≡ withCount a (n + bit (counted s a))
 passed-is s a n = go (counted s a)

@@ -1,24 +1,19 @@
 -- What the widths of a list lie between, by the order of their keys.
-use mathlib.Core.Path.{_≡_, refl, sym}
+use mathlib.Core.Path.{_≡_, refl}
 use mathlib.Core.Bool.{Bool, true, false, not, cond}
 use mathlib.Core.List.{List, [], _∷_, _++_}
-use Prim.Native.Nat.{ℕ, _*_, _/_, _^_, _≤_, _<_}
-use native.Mathlib.Nat.{le-refl, le-trans, mul-le-mul-right, div-mul-le-self}
-use native.Mathlib.Omega.{arith}
+use Prim.Native.Nat.{ℕ, _*_, _≤_}
+use native.Mathlib.Nat.{le-refl, le-trans}
 use lib.Dec.{T}
-use lib.IntN.{ℤ}
-use lib.Pow.{shr-mono}
-use lib.Ieee.{Float, nan, inf, fin, binary64, ofBits, isNan, toBits, lt, le}
+use lib.Ieee.{Float, nan, inf, fin, binary64, fits, ofBits, isNan, toBits, lt, le}
 use lib.Ieee.Positive.{num, den, positive, cross→le}
 use borrow.Author.Tests.{ltb-false}
 use Rattle.blur.specs.declared.swings.Swing.{Swing}
 use Rattle.blur.specs.declared.scan.Span.{Span}
-use Rattle.blur.specs.declared.select.Pass.{Pass}
 use Rattle.blur.specs.Scan.{lesser, greater, widenedBy, spanFrom, spanOf}
-use Rattle.blur.specs.Select.{high, Each, Widths, Shared, Opens}
+use Rattle.blur.specs.Select.{Each, Positive, Widths}
 use Rattle.blur.proofs.Each.{each-map}
 use Rattle.blur.proofs.Keys.{bits-mono}
-use Rattle.blur.proofs.Rounds.{positive-number}
 
 -- one width more: the list so far has its span, and `widened` takes in the next
 pub span-snoc : (span : Span) (l : List Swing) (s : Swing) → spanFrom span (l ++ (s ∷ [])) ≡ widenedBy (spanFrom span l) (s .width)
@@ -27,6 +22,12 @@ span-snoc span (t ∷ l) s = span-snoc (widenedBy span (t .width)) l s
 
 abbrev key : Float → ℕ
 key x = toBits binary64 x
+
+pub positive-number : (x : Float) → T (positive x) → T (not (isNan x))
+unfolding isNan
+positive-number nan p = absurd p
+positive-number (inf s) p = absurd p
+positive-number (fin s m e) p = tt
 
 -- ---- the test, as one of keys
 less-le : (x y : Float) → lt x y ≡ true → T (le x y)
@@ -45,34 +46,34 @@ not-less-cross (fin false m e) (fin false n d) p q h = ltb-false _ _ h
 
 -- a value that lies between two others, by the keys, and is one of them
 record Least (a b c : Float) : Type 0 where
-  above : T (positive c)
+  own : Positive binary64 c
   first : key c ≤ key a
   second : key c ≤ key b
 
 record Greatest (a b c : Float) : Type 0 where
-  above : T (positive c)
+  own : Positive binary64 c
   first : key a ≤ key c
   second : key b ≤ key c
 
-module _ (a b : Float) (p : T (positive a)) (q : T (positive b)) where
+module _ (a b : Float) (p : Positive binary64 a) (q : Positive binary64 b) where
   lesser-least : Least a b (lesser a b)
   lesser-least = go (lt b a) refl
     where
       go : (t : Bool) → lt b a ≡ t → Least a b (cond t b a)
-      go true e = record { above = q; first = bits-mono binary64 b a q p (less-le b a e); second = le-refl _ }
-      go false e = record { above = p; first = le-refl _; second = bits-mono binary64 a b p q (cross→le a b p q (not-less-cross b a q p e)) }
+      go true e = record { own = q; first = bits-mono binary64 b a (q .above) (p .above) (less-le b a e); second = le-refl _ }
+      go false e = record { own = p; first = le-refl _; second = bits-mono binary64 a b (p .above) (q .above) (cross→le a b (p .above) (q .above) (not-less-cross b a (q .above) (p .above) e)) }
 
   greater-greatest : Greatest a b (greater a b)
   greater-greatest = go (lt a b) refl
     where
       go : (t : Bool) → lt a b ≡ t → Greatest a b (cond t b a)
-      go true e = record { above = q; first = bits-mono binary64 a b p q (less-le a b e); second = le-refl _ }
-      go false e = record { above = p; first = le-refl _; second = bits-mono binary64 b a q p (cross→le b a q p (not-less-cross a b p q e)) }
+      go true e = record { own = q; first = bits-mono binary64 a b (p .above) (q .above) (less-le a b e); second = le-refl _ }
+      go false e = record { own = p; first = le-refl _; second = bits-mono binary64 b a (q .above) (p .above) (cross→le b a (q .above) (p .above) (not-less-cross a b (p .above) (q .above) e)) }
 
 -- ---- the span of a list
 record Ends (span : Span) : Type 0 where
-  low : T (positive (span .least))
-  high : T (positive (span .greatest))
+  low : Positive binary64 (span .least)
+  high : Positive binary64 (span .greatest)
 
 record Between (span : Span) (low high : Float) : Type 0 where
   from : key (span .least) ≤ key low
@@ -86,9 +87,9 @@ record Spans (from : Span) (l : List Swing) (span : Span) : Type 0 where
 spans : (from : Span) (l : List Swing) → Ends from → Widths l → Spans from l (spanFrom from l)
 spans from [] e ws = record { ends = e; over = record { from = le-refl _; to = le-refl _ }; each = tt }
 spans from (s ∷ l) e ws =
-    let a = lesser-least (from .least) (s .width) (e .low) (ws .0 .above) in
-    let b = greater-greatest (from .greatest) (s .width) (e .high) (ws .0 .above) in
-    let r = spans (widenedBy from (s .width)) l (record { low = a .above; high = b .above }) (ws .1) in
+    let a = lesser-least (from .least) (s .width) (e .low) (ws .0) in
+    let b = greater-greatest (from .greatest) (s .width) (e .high) (ws .0) in
+    let r = spans (widenedBy from (s .width)) l (record { low = a .own; high = b .own }) (ws .1) in
     record {
       ends = r .ends;
       over = record { from = le-trans (r .over .from) (a .first); to = le-trans (b .first) (r .over .to) };
@@ -97,26 +98,14 @@ spans from (s ∷ l) e ws =
 
 module _ (l : List Swing) (ws : Widths l) where
   whole : Spans (spanOf []) l (spanOf l)
-  unfolding ofBits
-  whole = spans (spanOf []) l (record { low = tt; high = tt }) ws
+  unfolding ofBits fits
+  whole = spans (spanOf []) l (record { low = record { above = tt; holds = tt }; high = record { above = tt; holds = tt } }) ws
 
   pub span-numbers : T (not (isNan (spanOf l .least))) × T (not (isNan (spanOf l .greatest)))
-  span-numbers = (positive-number _ (whole .ends .low), positive-number _ (whole .ends .high))
+  span-numbers = (positive-number _ (whole .ends .low .above), positive-number _ (whole .ends .high .above))
 
-  -- digits in which the ends agree are those of every key
-  pub shared-digits : (a : Pass) → key (spanOf l .least) / 2 ^ a .shift / 8192 ≡ a .prefix → key (spanOf l .greatest) / 2 ^ a .shift / 8192 ≡ a .prefix → Each (λ (s : Swing). high s a / 8192 ≡ a .prefix) l
-  shared-digits a e f =
-      each-map (λ (s : Swing). Between (spanOf l) (s .width) (s .width)) (λ (s : Swing). high s a / 8192 ≡ a .prefix)
-      (λ s b. omega (arith, e, f, shr-mono (a .shift) (b .from), shr-mono (a .shift) (b .to))) l (whole .each)
+  pub span-fits : T (fits binary64 (spanOf l .least))
+  span-fits = whole .ends .low .holds
 
--- ---- before the first pass
-pub opens : (top : ℤ) (span : Span) (shift : ℕ) → key (span .least) < 2 ^ 64 → Shared (key (span .least)) (key (span .greatest)) shift
-    → Opens top span (record { on = true; strongest = top; prefix = key (span .least) / 2 ^ shift / 8192; shift = shift; place = 0; kept = 0; count = 0 })
-opens top span shift h s =
-    let q = key (span .least) / 2 ^ shift in
-    let down : q / 8192 * 8192 ≤ q = omega arith in
-    record {
-      starts = record { on = refl; strongest = refl; whole = s .whole; most = s .most; room = omega (arith, h, mul-le-mul-right (2 ^ shift) down, div-mul-le-self (key (span .least)) (2 ^ shift)); kept = refl; count = refl };
-      least = refl;
-      greatest = sym (s .same);
-    }
+  pub span-within : Each (λ (s : Swing). (key (spanOf l .least) ≤ key (s .width)) × (key (s .width) ≤ key (spanOf l .greatest))) l
+  span-within = each-map (λ (s : Swing). Between (spanOf l) (s .width) (s .width)) (λ (s : Swing). (key (spanOf l .least) ≤ key (s .width)) × (key (s .width) ≤ key (spanOf l .greatest))) (λ s b. (b .from, b .to)) l (whole .each)

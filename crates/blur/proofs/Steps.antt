@@ -19,7 +19,7 @@ use Rattle.blur.specs.declared.swings.Swing.{Swing}
 use Rattle.blur.specs.declared.select.Pass.{Pass}
 use Rattle.blur.specs.declared.select.Chosen.{Chosen}
 use Rattle.blur.specs.Median.{stays}
-use Rattle.blur.specs.Select.{high, counted, pickFrom, isFirst, wanted, zeros, Tallied, Narrows}
+use Rattle.blur.specs.Select.{high, counted, pickFrom, wanted, keptOf, prefixOf, reachOf, zeros, Tallied, Narrows}
 
 -- ---- the choice, digit by digit
 pub pick-here : (cs : List ℕ) (d p : ℕ) → d < length cs → p < getD cs d 0 → record { digit = d; place = p } ≡ pickFrom (drop d cs) d p
@@ -56,23 +56,23 @@ cond-le false = omega arith
 
 -- ---- one record: what is added is 1 where the pass counts it, else 0
 pub one-step : (s : Swing) (a : Pass) (cs : List ℕ) (h one : ℕ) → h ≡ high s a → one ≡ cond (stays (a .strongest) s && eqb (h / 8192) (a .prefix)) 1 0
-    → Tallied s a cs (set cs (h % 8192) (getD cs (h % 8192) 0 + one)) (record { on = a .on; strongest = a .strongest; prefix = a .prefix; shift = a .shift; place = a .place; kept = a .kept; count = a .count + one })
+    → Tallied s a cs (set cs (h % 8192) (getD cs (h % 8192) 0 + one)) (record { left = a .left; total = a .total; reach = a .reach; low = a .low; high = a .high; strongest = a .strongest; prefix = a .prefix; shift = a .shift; place = a .place; kept = a .kept; count = a .count + one })
 one-step s a cs h one e f = rw (f, e) (go (counted s a) refl)
   where
     d : ℕ
     d = high s a % 8192
 
     go : (b : Bool) → counted s a ≡ b
-        → Tallied s a cs (set cs d (getD cs d 0 + cond b 1 0)) (record { on = a .on; strongest = a .strongest; prefix = a .prefix; shift = a .shift; place = a .place; kept = a .kept; count = a .count + cond b 1 0 })
+        → Tallied s a cs (set cs d (getD cs d 0 + cond b 1 0)) (record { left = a .left; total = a .total; reach = a .reach; low = a .low; high = a .high; strongest = a .strongest; prefix = a .prefix; shift = a .shift; place = a .place; kept = a .kept; count = a .count + cond b 1 0 })
     go true q = record { state = rw q refl; counts = rw q refl }
     go false q = record { state = rw (q, add-zero (a .count)) refl; counts = rw (q, add-zero (getD cs d 0)) (set-getD cs d 0) }
 
 -- ---- the state behind a pass
-pub narrows : (a : Pass) (cs behind : List ℕ) (o : Chosen) (p shift kept : ℕ) → p ≡ wanted a → o ≡ pickFrom cs 0 p → shift ≡ a .shift - 13 → kept ≡ cond (isFirst a) (a .count) (a .kept)
-    → behind ≡ replicate (length cs) 0 → length cs ≡ 8192
-    → Narrows a cs behind (record { on = not (eqb (a .shift) 0); strongest = a .strongest; prefix = a .prefix * 8192 + o .digit; shift = shift; place = o .place; kept = kept; count = 0 })
+pub narrows : (a : Pass) (cs behind : List ℕ) (o : Chosen) (p prefix reach shift kept : ℕ) → p ≡ wanted a → o ≡ pickFrom cs 0 p → kept ≡ keptOf a → shift ≡ a .shift - 13
+    → reach ≡ reachOf kept shift (a .low) (a .high) (a .total) → prefix ≡ prefixOf a (o .digit) → behind ≡ replicate (length cs) 0 → length cs ≡ 8192
+    → Narrows a cs behind (record { left = a .left - 1; total = a .total; reach = reach; low = a .low; high = a .high; strongest = a .strongest; prefix = prefix; shift = shift; place = o .place; kept = kept; count = 0 })
 unfolding zeros
-narrows a cs behind o p shift kept e f g h k n = record { state = rw (f, e, g, h) refl; counts = k ∙ ap (λ (m : ℕ). replicate m 0) n }
+narrows a cs behind o p prefix reach shift kept e f g h i j k n = record { state = rw (i, j, f, e, h, g) refl; counts = k ∙ ap (λ (m : ℕ). replicate m 0) n }
 
 -- ---- signed numbers
 pub test-of : (t : Bool) (a b : ℤ) → SFits w32 a → SFits w32 b → leZ (toZ w32 (ofZ w32 a)) (toZ w32 (ofZ w32 b)) ≡ t → leZ a b ≡ t

@@ -1,12 +1,12 @@
 -- What the selection of the median does, pass by pass. The keys are the widths' bit patterns, read as digits of 13 bits.
 use mathlib.Core.Path.{_≡_, refl}
-use mathlib.Core.Bool.{Bool, true, cond, not, _&&_, _||_}
+use mathlib.Core.Bool.{Bool, cond, not, _&&_, _||_}
 use mathlib.Core.List.{List, [], _∷_}
-use Prim.Native.Nat.{ℕ, suc, _+_, _-_, _*_, _/_, _%_, _^_, _≤_, _<_}
+use Prim.Native.Nat.{ℕ, suc, _+_, _-_, _*_, _/_, _%_, _^_, _<_}
 use lib.Dec.{T, ltb, eqb}
 use lib.IntN.{ℤ, pos}
-use lib.ListN.{length, getD, set, replicate}
-use lib.Ieee.{Format, Float, binary64, fits, isNan, toBits, ofBits, div}
+use lib.ListN.{length, getD, set, take, replicate}
+use lib.Ieee.{Format, Float, binary64, fits, isNan, toBits, ofBits, lt, div}
 use lib.Ieee.Positive.{positive}
 use Rattle.blur.specs.declared.swings.Swing.{Swing}
 use Rattle.blur.specs.declared.length.LineLength.{LineLength}
@@ -14,6 +14,7 @@ use Rattle.blur.specs.declared.length.LineLength.the-variants.{Found, No
 use Rattle.blur.specs.declared.select.Pass.{Pass}
 use Rattle.blur.specs.declared.select.Chosen.{Chosen}
 use Rattle.blur.specs.declared.scan.Span.{Span}
+use Rattle.blur.specs.Scan.{spanOf}
 use Rattle.blur.specs.Median.{strongest, stays, sixTenths}
 
 -- ---- one record's step in a pass
@@ -29,7 +30,7 @@ counted s a = stays (a .strongest) s && eqb (high s a / 8192) (a .prefix)
 abbrev pub passed : Swing → Pass → Pass
 passed s a =
     cond (counted s a)
-    (record { on = a .on; strongest = a .strongest; prefix = a .prefix; shift = a .shift; place = a .place; kept = a .kept; count = a .count + 1 })
+    (record { left = a .left; total = a .total; reach = a .reach; low = a .low; high = a .high; strongest = a .strongest; prefix = a .prefix; shift = a .shift; place = a .place; kept = a .kept; count = a .count + 1 })
     a
 
 abbrev pub tallied : Swing → Pass → List ℕ → List ℕ
@@ -60,10 +61,52 @@ isFirst a = eqb (a .kept) 0
 abbrev pub wanted : Pass → ℕ
 wanted a = cond (isFirst a) (a .count / 2) (a .place)
 
+abbrev pub keptOf : Pass → ℕ
+keptOf a = cond (isFirst a) (a .count) (a .kept)
+
+-- the digits found: with the one that was chosen, or those of the least key where the pass went over no record
+abbrev pub prefixOf : Pass → ℕ → ℕ
+prefixOf a digit = cond (eqb (a .reach) 0) (a .low / 2 ^ a .shift) (a .prefix * 8192 + digit)
+
+-- a pass goes over no record where the least and the greatest key have the same digits down to its digit, as long as a later pass counts what stays
+abbrev pub reachOf : ℕ → ℕ → ℕ → ℕ → ℕ → ℕ
+reachOf kept shift low high total = cond (eqb kept 0 && not (eqb shift 0) && eqb (low / 2 ^ shift) (high / 2 ^ shift)) 0 total
+
 abbrev pub narrowed : Pass → List ℕ → Pass
 narrowed a counts =
     let o = pickFrom counts 0 (wanted a) in
-    record { on = not (eqb (a .shift) 0); strongest = a .strongest; prefix = a .prefix * 8192 + o .digit; shift = a .shift - 13; place = o .place; kept = cond (isFirst a) (a .count) (a .kept); count = 0 }
+    record {
+      left = a .left - 1;
+      total = a .total;
+      reach = reachOf (keptOf a) (a .shift - 13) (a .low) (a .high) (a .total);
+      low = a .low;
+      high = a .high;
+      strongest = a .strongest;
+      prefix = prefixOf a (o .digit);
+      shift = a .shift - 13;
+      place = o .place;
+      kept = keptOf a;
+      count = 0;
+    }
+
+-- before the first pass: five digits, of which the first has 12 bits
+abbrev pub started : ℤ → Span → ℕ → Pass
+started top span total =
+    let low = toBits binary64 (span .least) in
+    let high = toBits binary64 (span .greatest) in
+    record {
+      left = 5;
+      total = total;
+      reach = reachOf 0 52 low high total;
+      low = low;
+      high = high;
+      strongest = top;
+      prefix = 0;
+      shift = 52;
+      place = 0;
+      kept = 0;
+      count = 0;
+    }
 
 -- the counts that a pass starts from: 8,192 digits, none seen
 unfoldable pub zeros : List ℕ
@@ -71,36 +114,12 @@ zeros = replicate 8192 0
 
 -- one pass over the list, and the choice of its digit
 abbrev pub round : List Swing → Pass → Pass
-round l a = narrowed (passAll l a) (tallyAll l a zeros)
+round l a = narrowed (passAll (take (a .reach) l) a) (tallyAll (take (a .reach) l) a zeros)
 
 -- ---- after the last pass the prefix is the median's bit pattern
 abbrev pub answered : Pass → ℕ → LineLength
 answered a minimum =
     cond (eqb (a .kept) 0 || ltb (a .kept) minimum) Nothing (Found (div binary64 (ofBits binary64 (a .prefix)) sixTenths))
-
--- ---- before the first pass
-
--- two keys are equal above the digit at r
-pub record Shared (low high r : ℕ) : Type 0 where
-  pub whole : r % 13 ≡ 0
-  pub most : r ≤ 52
-  pub same : low / 2 ^ r / 8192 ≡ high / 2 ^ r / 8192
-
--- no record was counted
-pub record Starts (top : ℤ) (a : Pass) : Type 0 where
-  pub on : a .on ≡ true
-  pub strongest : a .strongest ≡ top
-  pub whole : a .shift % 13 ≡ 0
-  pub most : a .shift ≤ 52
-  pub room : a .prefix * 2 ^ a .shift < 2 ^ 51
-  pub kept : a .kept ≡ 0
-  pub count : a .count ≡ 0
-
--- .. and the digits above the first pass's digit are those of the least and of the greatest width
-pub record Opens (top : ℤ) (span : Span) (a : Pass) : Type 0 where
-  pub starts : Starts top a
-  pub least : toBits binary64 (span .least) / 2 ^ a .shift / 8192 ≡ a .prefix
-  pub greatest : toBits binary64 (span .greatest) / 2 ^ a .shift / 8192 ≡ a .prefix
 
 -- ---- what the steps ask for
 
@@ -127,16 +146,17 @@ pub record Countable (s : Swing) (a : Pass) (counts : List ℕ) : Type 0 where
 pub record Narrowable (a : Pass) (counts : List ℕ) : Type 0 where
   pub digits : length counts ≡ 8192
   pub room : a .prefix < 2 ^ 51
+  pub below : a .shift < 64
+  pub some : 0 < a .left
 
 -- each record's step has what it asks for
 abbrev pub Countables : List Swing → Pass → List ℕ → Type 0
 Countables [] a counts = Unit {0}
 Countables (s ∷ l) a counts = Countable s a counts × Countables l (passed s a) (tallied s a counts)
 
--- a selection from its start, the digits above its first pass's digit being the same in all keys
+-- a selection from its start
 pub record Selectable (l : List Swing) (first : Pass) : Type 0 where
-  pub starts : Starts (strongest l) first
-  pub same : Each (λ (s : Swing). high s first / 8192 ≡ first .prefix) l
+  pub starts : first ≡ started (strongest l) (spanOf l) (length l)
   pub widths : Widths l
   pub few : length l < 2 ^ 32
 
@@ -160,10 +180,7 @@ two =
     record { width = ofBits binary64 0x4008000000000000; swing = pos 100 }
     ∷ (record { width = ofBits binary64 0x4004000000000000; swing = pos 50 } ∷ (record { width = ofBits binary64 0x4000000000000000; swing = pos 200 } ∷ []))
 
--- from the digit at 39 on, since all widths have the same exponent
-opening : Pass
-opening = record { on = true; strongest = pos 200; prefix = 0x400; shift = 39; place = 0; kept = 0; count = 0 }
-
-example-passes : round two (round two (round two (round two opening))) .prefix ≡ 0x4008000000000000
-unfolding two opening zeros ofBits toBits
+-- the first pass goes over no record, since all widths have the same exponent
+example-passes : round two (round two (round two (round two (round two (started (pos 200) (spanOf two) 3))))) .prefix ≡ 0x4008000000000000
+unfolding two zeros ofBits toBits lt
 example-passes = refl

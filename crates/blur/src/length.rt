@@ -162,7 +162,7 @@ pub fn estimate_along(
         return refused(course.refusal);
     }
     let s = fill(data, course, begin(), swings);
-    select(swings, s.count, opened(s), minimum_transitions)
+    select(swings, opened(s), minimum_transitions)
 }
 
 // The same along the direction nearest to an angle.

@@ -1,7 +1,7 @@
 // The width at place count / 2 in ascending order, without sorting: radix selection over the widths' bit patterns,
 // digits of 13 bits, the top digit first. A pass over the list counts the digits of the keys that are still in
-// question; the digit is chosen where the running sum of the counts goes past the wanted place. It starts at the first digit
-// in which the least and the greatest width differ: digits that all keys share would make every count wait for the one before.
+// question; the digit is chosen where the running sum of the counts goes past the wanted place. A pass goes over no record
+// where the least and the greatest width share its digit and those above: there every count would wait for the one before.
 use crate::length::LengthAnswer;
 use crate::length::LineLength;
 use crate::scan::Scan;
@@ -16,12 +16,17 @@ ghost use lib.ListN.{length, replicate};
 ghost use lib.Ieee.{binary64, isNan, nanBits, toBits};
 ghost use Rattle.blur.specs.Median.{larger};
 ghost use Rattle.blur.specs.Scan.{lesser, greater};
-ghost use Rattle.blur.specs.Select.{pickFrom, isFirst, wanted, answered, Countable, Tallied, Narrowable, Narrows, Shared, Opens};
+ghost use Rattle.blur.specs.Select.{pickFrom, wanted, keptOf, prefixOf, reachOf, started, answered, Countable, Tallied, Narrowable, Narrows};
 
-// A pass, where `on`: `count` records were counted so far, of those that stay and have the digits `prefix` above the digit at
-// `shift`. Of the keys with that prefix the one at `place` is wanted; `kept` swings stay in all, and 0 before the first pass.
+// A pass over the first `reach` of `total` records, with `left` digits to find: `count` records were counted so far, of those
+// that stay and have the digits `prefix` above the digit at `shift`. Of the keys with that prefix the one at `place` is wanted;
+// `kept` swings stay in all, and 0 before they are counted. All keys lie from `low` to `high`.
 pub struct Pass {
-    pub on: bool,
+    pub left: u32,
+    pub total: usize,
+    pub reach: usize,
+    pub low: u64,
+    pub high: u64,
     pub strongest: i32,
     pub prefix: u64,
     pub shift: u32,
@@ -137,7 +142,7 @@ fn place_of(a: Pass) -> u32
 }
 
 fn kept_of(a: Pass) -> u32
-    ensures { λ r. ⌜ r ≡ cond (isFirst a) (a .count) (a .kept) ⌝ }
+    ensures { λ r. ⌜ r ≡ keptOf a ⌝ }
 {
     if a.kept == 0 { a.count } else { a.kept }
 }
@@ -148,6 +153,36 @@ fn next_shift(shift: u32) -> u32
     if shift < 13 { 0 } else { shift - 13 }
 }
 
+// The prefix with the digit that was chosen, or that all keys share where no record was gone over.
+fn prefix_of(a: Pass, digit: usize) -> u64
+    requires { ⌜ (digit < 8192) × (a .prefix < 2 ^ 51) × (a .shift < 64) ⌝ }
+    ensures { λ r. ⌜ r ≡ prefixOf a digit ⌝ }
+{
+    if a.reach == 0 {
+        a.low >> a.shift
+    } else {
+        a.prefix * 8192 + digit as u64
+    }
+}
+
+// How many records a pass goes over: none where all keys share its digit. The last pass counts what stays, if none did before.
+fn reach_of(kept: u32, shift: u32, low: u64, high: u64, total: usize) -> usize
+    requires { ⌜ shift < 64 ⌝ }
+    ensures { λ r. ⌜ r ≡ reachOf kept shift low high total ⌝ }
+{
+    if kept != 0 {
+        return total;
+    }
+    if shift == 0 {
+        return total;
+    }
+    if low >> shift == high >> shift {
+        0
+    } else {
+        total
+    }
+}
+
 // After a pass: its digit joins the prefix, and the counts are 0 again for the next pass.
 pub(crate) fn narrow(a: Pass, counts: &mut [u32]) -> Pass
     requires { ⌜ Narrowable a (now counts) ⌝ }
@@ -155,42 +190,35 @@ pub(crate) fn narrow(a: Pass, counts: &mut [u32]) -> Pass
 {
     let chosen = choose(counts, place_of(a));
     clear(counts);
+    let kept = kept_of(a);
+    let shift = next_shift(a.shift);
     let mut next = a;
-    next.on = a.shift != 0;
-    next.prefix = a.prefix * 8192 + chosen.digit as u64;
-    next.shift = next_shift(a.shift);
+    next.left = a.left - 1;
+    next.reach = reach_of(kept, shift, a.low, a.high, a.total);
+    next.prefix = prefix_of(a, chosen.digit);
+    next.shift = shift;
     next.place = chosen.place;
-    next.kept = kept_of(a);
+    next.kept = kept;
     next.count = 0;
     next
-}
-
-// The place of the first digit in which two keys differ, and of the last digit where they are equal.
-fn shared(low: u64, high: u64) -> u32
-    ensures { λ r. ⌜ Shared low high r ⌝ }
-{
-    let mut shift = 0;
-    while shift < 52 {
-        if (low >> shift) / 8192 == (high >> shift) / 8192 {
-            return shift;
-        }
-        shift += 13;
-    }
-    shift
 }
 
 // Before the first pass, over the records of a scan.
 pub(crate) fn opened(s: Scan) -> Pass
     requires { ⌜ T (not (isNan (s .span .least))) × T (not (isNan (s .span .greatest))) ⌝ }
-    ensures { λ r. ⌜ Opens (s .strongest) (s .span) r ⌝ }
+    ensures { λ r. ⌜ r ≡ started (s .strongest) (s .span) (s .count) ⌝ }
 {
     let low = f64::to_bits(s.span.least);
-    let shift = shared(low, f64::to_bits(s.span.greatest));
+    let high = f64::to_bits(s.span.greatest);
     Pass {
-        on: true,
+        left: 5,
+        total: s.count,
+        reach: reach_of(0, 52, low, high, s.count),
+        low,
+        high,
         strongest: s.strongest,
-        prefix: (low >> shift) / 8192,
-        shift,
+        prefix: 0,
+        shift: 52,
         place: 0,
         kept: 0,
         count: 0,

@@ -52,15 +52,15 @@ pub(crate) fn pass(swings: &[Swing], n: usize, first: Pass, counts: &mut [u32]) 
     a
 }
 
-// The length that the first n records give.
-pub(crate) fn select(swings: &[Swing], n: usize, first: Pass, minimum: usize) -> LengthAnswer
-    requires { ⌜ (n ≤ length (now swings)) × Selectable (take n (now swings)) first ⌝ }
-    ensures { λ r. ⌜ r ≡ LengthAnswer.Length (lengthOf (take n (now (swings .entry))) minimum) ⌝ }
+// The length that the records of a selection give.
+pub(crate) fn select(swings: &[Swing], first: Pass, minimum: usize) -> LengthAnswer
+    requires { ⌜ (first .total ≤ length (now swings)) × Selectable (take (first .total) (now swings)) first ⌝ }
+    ensures { λ r. ⌜ r ≡ LengthAnswer.Length (lengthOf (take (first .total) (now (swings .entry))) minimum) ⌝ }
 {
     let mut counts = [0u32; 8192];
     let mut a = first;
-    while a.on {
-        let b = pass(swings, n, a, &mut counts);
+    while a.left > 0 {
+        let b = pass(swings, a.reach, a, &mut counts);
         a = narrow(b, &mut counts);
     }
     measured(a, minimum)

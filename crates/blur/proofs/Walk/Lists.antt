@@ -1,5 +1,6 @@
 -- Laws on lists for loops over the elements of a slice.
 --     take-here        of the first n elements, those from place i on are element i and those from the next on.        take-end     and at n none is left
+--     take-less        fewer of the first n elements
 -- Assumes nothing.
 use mathlib.Core.Path.{_≡_, refl, sym, _∙_, ap, subst}
 use Prim.Native.Nat.{ℕ, zero, suc, _+_, _≤_, _<_}
@@ -19,3 +20,9 @@ module _ {X : Type 0} where
 
   pub take-end : (xs : List X) (n : ℕ) → drop n (take n xs) ≡ []
   take-end xs n = drop-of-length-le (take n xs) (subst (λ (k : ℕ). k ≤ n) (sym (length-take n xs)) (min-le-left n (length xs)))
+
+  pub take-less : (m n : ℕ) (xs : List X) → m ≤ n → take m (take n xs) ≡ take m xs
+  take-less zero n xs h = refl
+  take-less (suc m) zero xs h = absurd (not-suc-le-zero h)
+  take-less (suc m) (suc n) [] h = refl
+  take-less (suc m) (suc n) (x ∷ xs) h = ap (x ∷_) (take-less m n xs (le-of-suc-le-suc h))

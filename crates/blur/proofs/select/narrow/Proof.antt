@@ -16,28 +16,41 @@ choose-requires c κs = search needs
 clear-requires : tie.Need-clear-requires
 clear-requires c κs = search needs
 
-mul-next : tie.Need-mul-next
-mul-next c = search needs
-
-add-next : tie.Need-add-next
-add-next c =
-    let counts = c .before .before .before .before .before .before .before .before .before .before .args .counts .now in
-    let digit : c .before .before .before .before .before .before .choose .result .digit < 0 + length counts = rw (c .before .before .before .before .before .before .choose .ensures) (pick-lt counts 0 (c .before .before .before .before .before .before .before .place-of .result) (omega (arith, c .before .before .before .before .before .before .before .before .before .before .pre .digits))) in
-    record { fits = omega (arith, c .before .before .before .before .before .before .before .before .before .before .pre .digits, c .before .before .before .before .before .before .before .before .before .before .pre .room) }
+kept-of-requires : tie.Need-kept-of-requires
+kept-of-requires c κs = search needs
 
 next-shift-requires : tie.Need-next-shift-requires
 next-shift-requires c κs = search needs
 
-kept-of-requires : tie.Need-kept-of-requires
-kept-of-requires c κs = search needs
+sub-next : tie.Need-sub-next
+sub-next c = search needs
+
+reach-of-requires : tie.Need-reach-of-requires
+reach-of-requires c κs =
+    let n = c .before in
+    let s = n .before .before .before .before .before .before .before .before .before .before in
+    omega (arith, n .next-shift .ensures, s .pre .below)
+
+prefix-of-requires : tie.Need-prefix-of-requires
+prefix-of-requires c κs =
+    let o = c .before .before .before .before .before .before .before .before in
+    let p = o .before in
+    let s = p .before .before .before in
+    let digit : o .choose .result .digit < 0 + length (s .args .counts .now) = rw (o .choose .ensures) (pick-lt (s .args .counts .now) 0 (p .place-of .result) (omega (arith, s .pre .digits))) in
+    (omega (arith, digit, s .pre .digits), s .pre .room, s .pre .below)
 
 same-length : tie.Need-same-length
 same-length c = search needs
 
 returns : tie.Need-returns
 returns c =
-    narrows _ _ _ (c .before .before .before .before .before .before .before .before .choose .result) (c .before .before .before .before .before .before .before .before .before .place-of .result) _ _ (c .before .before .before .before .before .before .before .before .before .place-of .ensures) (c .before .before .before .before .before .before .before .before .choose .ensures) (c .before .next-shift .ensures) (c .kept-of .ensures)
-    (c .before .before .before .before .before .before .clear .ensures) (c .before .before .before .before .before .before .before .before .before .before .before .before .pre .digits)
+    let n = c .before .before .before in
+    let k = n .before in
+    let x = k .before .before .before in
+    let o = x .before .before in
+    let p = o .before in
+    let s = p .before .before .before in
+    narrows _ _ _ (o .choose .result) (p .place-of .result) _ _ _ _ (p .place-of .ensures) (o .choose .ensures) (k .kept-of .ensures) (n .next-shift .ensures) (c .before .reach-of .ensures) (c .prefix-of .ensures) (x .clear .ensures) (s .pre .digits)
 
 pub narrow-spec : {M : Type 1} → statement M
 narrow-spec =
@@ -46,9 +59,10 @@ narrow-spec =
     place-of-requires
     choose-requires
     clear-requires
-    mul-next
-    add-next
-    next-shift-requires
     kept-of-requires
+    next-shift-requires
+    sub-next
+    reach-of-requires
+    prefix-of-requires
     same-length
     returns)

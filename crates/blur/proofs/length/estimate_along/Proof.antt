@@ -21,7 +21,7 @@ use ghost.Atoms.{Atoms}
 use contract.Monad.{Fun}
 use contract.Running.{givenOf, tables, tablesOf}
 use types.Kit.{Given, Item, ‵, raw, _⊛_, ⋆, Seq, Go, atRet, runs, _$_, _∵_, !, qed, by, move, keep, drop, group, use0, use1, use2, split, join, rewrite, fsplit, fjoin, feqL, suffices, frame, done}
-use types.Run.{look, init, stop, hop, fld, from, load, lit, of-opd, bin, addr, and-then, no-more, assigns, first, branches, skips, land, returns, returns-within, enter, alloc1, alloc0, params1, pass1, pass0, exec}
+use types.Run.{look, init, forget, stop, hop, fld, from, load, lit, of-opd, bin, addr, and-then, no-more, assigns, first, branches, skips, land, returns, returns-within, enter, alloc1, alloc0, params1, pass1, pass0, exec}
 use types.Part.{whole, sub, look-in, agg}
 use sound.WpLaws.{FmC, fmOf, WpFn-mono}
 use denote.RattleType.{owns}

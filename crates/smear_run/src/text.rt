@@ -8,8 +8,7 @@ pub(crate) fn put_too_large(made: &mut [u8]) -> usize
     requires { ⌜ 10 ≤ length (now made) ⌝ }
     ensures { λ r. ⌜ Front tooLarge (now (made .exit)) r ⌝ }
 {
-    let text = [b't', b'o', b'o', b' ', b'l', b'a', b'r', b'g', b'e', b'\n'];
-    bytes::copy(&text, made)
+    bytes::copy(b"too large\n", made)
 }
 
 // The number has one digit or two.
@@ -19,22 +18,12 @@ pub(crate) fn put_refusal(number: u8, made: &mut [u8]) -> usize
 {
     let low = b'0' + number % 10;
     if number < 10 {
-        let text = [b'r', b'e', b'f', b'u', b's', b'e', b'd', b' ', low, b'\n'];
+        let mut text = *b"refused 0\n";
+        text[8] = low;
         return bytes::copy(&text, made);
     }
-    let high = b'0' + number / 10;
-    let text = [
-        b'r',
-        b'e',
-        b'f',
-        b'u',
-        b's',
-        b'e',
-        b'd',
-        b' ',
-        high,
-        low,
-        b'\n',
-    ];
+    let mut text = *b"refused 00\n";
+    text[8] = b'0' + number / 10;
+    text[9] = low;
     bytes::copy(&text, made)
 }

@@ -224,12 +224,15 @@ module _ {M : Type 1} (𝓤 : URA M) (H : Heap 𝓤) (A : Atoms 𝓤) (W : Given
       nothing ! $ move ! (6 ∷ 0 ∷ []) $ fjoin ! $ move ! (5 ∷ 0 ∷ []) $ fjoin ! $ move ! (4 ∷ 0 ∷ []) $ fjoin ! $ move ! (3 ∷ 0 ∷ []) $ fjoin ! $ move ! (2 ∷ 0 ∷ []) $ fjoin ! $ nothing ! $ fjoin ! $ nothing ! $ fjoin ! $ nothing ! $ fjoin ! $ nothing ! $ fjoin ! $ nothing ! $ fjoin ! $ nothing ! $ fjoin ! $ nothing ! $ fjoin ! $ nothing ! $ fjoin ! $ nothing ! $ fjoin ! $
       move ! (1 ∷ 0 ∷ []) $ fjoin ! $ nothing ! $ fjoin ! $ nothing ! $ fjoin ! $ nothing ! $ fjoin ! $ nothing ! $ fjoin ! $ frame ! $ owned ! u8 (Is u8) (uint-makes 𝓤 H A W w8) r _ is $ done !
 
-  -- and from what the last two callees leave: what is said of the out-parameters and of the lists at last, each behind its tokens
+  -- what the last two callees leave: what is said of the out-parameters and of the lists at last, each behind its tokens
+  abbrev Left : (answer : JobAnswer) → Lasts restore.ended (to-restore .0 .0) (to-restore .0 .3) → Lasts back.ended (to-back answer .0 .0) (to-back answer .0 .3) → List (Item 𝓤)
+  Left answer ls os = raw (alive 𝓤 H A (back.ended .signature) (to-back answer .0 .0) (to-back answer .0 .1)) ∷ ‵ (lasts back.ended (to-back answer .0 .0) (to-back answer .0 .3) os) ∷ raw (alive 𝓤 H A (restore.ended .signature) (to-restore .0 .0) (to-restore .0 .1)) ∷ ‵ (lasts restore.ended (to-restore .0 .0) (to-restore .0 .3) ls) ∷ []
+
   ends : (answer : JobAnswer) (r : ℕ) (v : Val) (ls : Lasts restore.ended (to-restore .0 .0) (to-restore .0 .3)) (os : Lasts back.ended (to-back answer .0 .0) (to-back answer .0 .3)) → Is u8 r (v ∷ [])
       → JobCalled (Runs (ls .1 .1 .1 .1 .0) (ls .1 .1 .1 .1 .1 .1 .1 .1 .1 .0) (ls .1 .1 .1 .1 .1 .1 .1 .1 .1 .1 .0)) before (after (os .1 .0) (os .1 .1 .0) (os .1 .1 .1 .0)) r
-      → ent 𝓤 (⋆ 𝓤 H A (raw (alive 𝓤 H A (back.ended .signature) (to-back answer .0 .0) (to-back answer .0 .1)) ∷ ‵ (lasts back.ended (to-back answer .0 .0) (to-back answer .0 .3) os) ∷ raw (alive 𝓤 H A (restore.ended .signature) (to-restore .0 .0) (to-restore .0 .1)) ∷ ‵ (lasts restore.ended (to-restore .0 .0) (to-restore .0 .3) ls) ∷ [])) (Post′ v)
+      → ent 𝓤 (⋆ 𝓤 H A (Left answer ls os)) (Post′ v)
   ends answer r v ls os is called =
-      qed W (raw (alive 𝓤 H A (back.ended .signature) (to-back answer .0 .0) (to-back answer .0 .1)) ∷ ‵ (lasts back.ended (to-back answer .0 .0) (to-back answer .0 .3) os) ∷ raw (alive 𝓤 H A (restore.ended .signature) (to-restore .0 .0) (to-restore .0 .1)) ∷ ‵ (lasts restore.ended (to-restore .0 .0) (to-restore .0 .3) ls) ∷ []) ∵
+      qed W (Left answer ls os) ∵
       use1 W (‵ (flft κ₄ q₄) ⊛ (‵ (flft κ₅ q₅) ⊛ (‵ (flft κ₆ q₆) ⊛ ‵ ftrue))) (id⊢ 𝓤 _) $ split ! $ move ! (1 ∷ []) $ split ! $ move ! (1 ∷ []) $ split ! $ move ! (1 ∷ []) $ drop ! $
       move ! (3 ∷ []) $ fsplit ! $ drop ! $ fsplit ! $ move ! (1 ∷ []) $ fsplit ! $ move ! (1 ∷ []) $ fsplit ! $ move ! (1 ∷ []) $ drop ! $
       -- [the last estimate, blur length, direction; tokens 6, 5, 4; the other tokens; the last lists]

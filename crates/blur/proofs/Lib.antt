@@ -1,11 +1,9 @@
 -- The laws of `blur`, by subject.
-pub mod Answer
 pub mod Count
 pub mod Courses
 pub mod Each
 pub mod Estimate
 pub mod Filling
-pub mod Gradient
 pub mod Keys
 pub mod LengthExamples
 pub mod Line
@@ -17,7 +15,6 @@ pub mod Radix
 pub mod Rise
 pub mod Rounds
 pub mod Runs
-pub mod Same
 pub mod SameLength
 pub mod SameSwings
 pub mod Scans
@@ -27,7 +24,5 @@ pub mod Spans
 pub mod Steps
 pub mod Strongest
 pub mod SwingExamples
-pub mod TensorDirection
-pub mod TensorExamples
 pub mod Walk
 pub mod Width

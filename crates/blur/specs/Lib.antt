@@ -7,4 +7,3 @@ pub mod Runs
 pub mod Scan
 pub mod Select
 pub mod Swings
-pub mod Tensor

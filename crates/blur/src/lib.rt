@@ -4,7 +4,6 @@ mod rises;
 mod scan;
 mod select;
 pub mod swings;
-pub mod tensor;
 
 pub use length::estimate_line_length;
 pub use length::estimate_line_length_with;

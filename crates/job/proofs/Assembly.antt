@@ -13,14 +13,14 @@ use Rattle.image.specs.Refusal.{layoutRefusal}
 use Rattle.image.proofs.Refusal.{accepted, layout-1}
 use Rattle.raster.specs.declared.direction.RasterDirection4.{RasterDirection4}
 use Rattle.blur.specs.Length.{lengthRefusal, lengthAlong, lengthAnswer, Estimated}
-use Rattle.blur.specs.Tensor.{directionAnswer}
+use Rattle.tensor.specs.Tensor.{directionAnswer}
 use Rattle.blur.specs.declared.length.LengthAnswer.{LengthAnswer}
 use Rattle.blur.specs.declared.length.LengthAnswer.the-variants as length-answer
 use Rattle.blur.specs.declared.length.LineLength.{LineLength}
 use Rattle.blur.specs.declared.swings.Swing.{Swing}
-use Rattle.blur.specs.declared.tensor.DirectionEstimate.{DirectionEstimate}
-use Rattle.blur.specs.declared.tensor.DirectionAnswer.the-variants as direction-answer
-use Rattle.blur.proofs.Answer.{answer-taken}
+use Rattle.tensor.specs.declared.direction.DirectionEstimate.{DirectionEstimate}
+use Rattle.tensor.specs.declared.direction.DirectionAnswer.the-variants as direction-answer
+use Rattle.tensor.proofs.Answer.{answer-taken}
 use Rattle.blur.proofs.Courses.{refusal-none}
 use Rattle.deblur.specs.Calls.{estimateOf, Filtered}
 use Rattle.deblur.specs.Settings.{restorationOf}

@@ -15,7 +15,7 @@ use Rattle.raster.specs.declared.direction.RasterDirection4.the-variants.{Verti
 use Rattle.blur.specs.Rise.{levelOf, crossedAt, placeAt, crossingOf, riseBetween, riseOf}
 use Rattle.blur.specs.Runs.{runsFrom, runsAfter}
 use Rattle.blur.specs.Swings.{swingsOf, lineSwings, swingsFrom}
-use Rattle.blur.specs.Tensor.{gradientX, gradientY, rowSum, interiorSum, tensorSums, tensorDirection, estimateOf}
+use Rattle.tensor.specs.Tensor.{gradientX, gradientY, rowSum, interiorSum, tensorSums, tensorDirection, estimateOf}
 use Rattle.job.specs.declared.JobAnswer.the-variants.{Done, Refused}
 use Rattle.job.specs.Job.{Job, settingsRefusal, jobRefusal, pictureDirection, jobDirection, plan}
 

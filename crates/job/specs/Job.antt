@@ -20,7 +20,7 @@ use Rattle.raster.specs.Direction.{angleOf}
 use Rattle.raster.specs.declared.border.LineBorderMode.the-variants.{Replicate}
 use Rattle.raster.specs.declared.direction.RasterDirection4.{RasterDirection4}
 use Rattle.blur.specs.Length.{lengthAlong}
-use Rattle.blur.specs.Tensor.{tensorSums, estimateOf}
+use Rattle.tensor.specs.Tensor.{tensorSums, estimateOf}
 use Rattle.blur.specs.declared.length.LineLength.{LineLength}
 use Rattle.blur.specs.declared.length.LineLength.the-variants.{Found, Nothing}
 use Rattle.blur.specs.declared.swings.Swing.{Swing}

@@ -10,12 +10,12 @@ use crate::JobConfig;
 use crate::JobResult;
 use blur::length::LengthAnswer;
 use blur::length::LineLength;
-use blur::tensor::DirectionAnswer;
 use deblur::VanCittertConfig;
 use floats::OddLength;
 use floats::Quantized;
 use image::pair_refusal;
 use raster::direction::RasterDirection4;
+use tensor::direction::DirectionAnswer;
 
 // What a job starts with: a refusal, 1 to 10, or 0; the direction of an accepted job's picture; and the width of what is
 // measured, which is the picture's for an accepted job, and else 0, for which nothing is written.
@@ -124,7 +124,7 @@ pub(crate) fn start_job(
     if refusal != 0 {
         return none;
     }
-    match blur::estimate_line_direction(data, width, height, stride) {
+    match tensor::estimate_line_direction(data, width, height, stride) {
         DirectionAnswer::Direction(e) => {
             let direction = e.direction;
             JobStart {

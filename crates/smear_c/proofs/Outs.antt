@@ -2,9 +2,9 @@
 use mathlib.Core.Path.{_≡_}
 use Prim.Native.Nat.{ℕ}
 use lib.IntN.{ℤ}
-use Rattle.blur.specs.declared.tensor.DirectionAnswer.{DirectionAnswer}
-use Rattle.blur.specs.declared.tensor.DirectionAnswer.the-variants.{Direction, Refused}
-use Rattle.blur.specs.declared.tensor.DirectionEstimate.{DirectionEstimate}
+use Rattle.tensor.specs.declared.direction.DirectionAnswer.{DirectionAnswer}
+use Rattle.tensor.specs.declared.direction.DirectionAnswer.the-variants.{Direction, Refused}
+use Rattle.tensor.specs.declared.direction.DirectionEstimate.{DirectionEstimate}
 use Rattle.raster.specs.Direction.{directionIndex}
 use Rattle.smear_c.specs.Direction.{Outs, Returned}
 

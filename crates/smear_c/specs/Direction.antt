@@ -2,8 +2,8 @@
 use mathlib.Core.Path.{_≡_}
 use Prim.Native.Nat.{ℕ}
 use lib.IntN.{ℤ}
-use Rattle.blur.specs.declared.tensor.DirectionAnswer.{DirectionAnswer}
-use Rattle.blur.specs.declared.tensor.DirectionAnswer.the-variants.{Direction, Refused}
+use Rattle.tensor.specs.declared.direction.DirectionAnswer.{DirectionAnswer}
+use Rattle.tensor.specs.declared.direction.DirectionAnswer.the-variants.{Direction, Refused}
 use Rattle.raster.specs.Direction.{directionIndex}
 
 -- the out-parameters

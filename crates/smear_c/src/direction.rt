@@ -1,11 +1,11 @@
 // Direction from an angle and from a picture.
 ghost use mathlib.Core.Path.{_≡_};
-ghost use Rattle.blur.specs.Tensor.{directionAnswer};
+ghost use Rattle.tensor.specs.Tensor.{directionAnswer};
 ghost use Rattle.raster.specs.Direction.{directionIndex, fromAngle};
 ghost use Rattle.smear_c.specs.Direction.{Returned};
-use blur::estimate_line_direction;
-use blur::tensor::DirectionAnswer;
 use raster::direction::RasterDirection4;
+use tensor::direction::DirectionAnswer;
+use tensor::estimate_line_direction;
 
 #[no_mangle]
 pub extern "C" fn smear_direction_from_angle(angle: f64) -> u8

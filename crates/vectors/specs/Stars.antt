@@ -25,7 +25,7 @@ use Rattle.raster.specs.declared.direction.RasterDirection4.the-variants.{Horiz
 use Rattle.blur.specs.Length.{lengthAnswer}
 use Rattle.blur.specs.Rise.{levelOf, crossedAt, placeAt, crossingOf, riseBetween}
 use Rattle.blur.specs.Swings.{swingsFrom}
-use Rattle.blur.specs.Tensor.{gradientX, gradientY, rowSum, interiorSum, tensorSums, tensorDirection, estimateOf}
+use Rattle.tensor.specs.Tensor.{gradientX, gradientY, rowSum, interiorSum, tensorSums, tensorDirection, estimateOf}
 use Rattle.blur.specs.declared.length.LengthAnswer.{LengthAnswer}
 use Rattle.blur.specs.declared.length.LengthAnswer.the-variants.{Length}
 use Rattle.blur.specs.declared.length.LineLength.the-variants.{Found, Nothing}

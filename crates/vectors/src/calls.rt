@@ -3,8 +3,6 @@ use crate::case::Case;
 use crate::lengths::length_at;
 use blur::length::LengthAnswer;
 use blur::length::LineLength;
-use blur::tensor::DirectionAnswer;
-use blur::tensor::estimate_line_direction;
 use deblur::DirectionalUnsharpConfig;
 use deblur::RestorationAnswer;
 use deblur::VanCittertConfig;
@@ -13,6 +11,8 @@ use deblur::van_cittert_line_into;
 use raster::border::LineBorderMode;
 use raster::direction::RasterDirection4;
 use sharpen::fixed_binomial_unsharp_into;
+use tensor::direction::DirectionAnswer;
+use tensor::estimate_line_direction;
 
 // What a call answered, as a case has it.
 pub struct Outcome {

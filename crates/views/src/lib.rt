@@ -1,7 +1,7 @@
 // Each call of the stage over views, for callers who hold pictures as views. A call's contract is the core's own, at the views' fields.
 ghost use mathlib.Core.Path.{_≡_};
 ghost use Rattle.blur.specs.Length.{Estimated as Measured, defaults};
-ghost use Rattle.blur.specs.Tensor.{directionAnswer};
+ghost use Rattle.tensor.specs.Tensor.{directionAnswer};
 ghost use Rattle.deblur.specs.Calls.{Filtered, Estimated};
 ghost use Rattle.deblur.specs.Settings.{restorationOf, unsharpOf};
 ghost use Rattle.job.specs.Job.{Restored};
@@ -11,7 +11,6 @@ ghost use Rattle.views.specs.Pictures.{into, over};
 use blur::length::LengthAnswer;
 use blur::length::LineLengthConfig;
 use blur::swings::Swing;
-use blur::tensor::DirectionAnswer;
 use deblur::DirectionalUnsharpConfig;
 use deblur::RestorationAnswer;
 use deblur::VanCittertConfig;
@@ -20,11 +19,12 @@ use image::Gray8ViewMut;
 use job::JobAnswer;
 use job::JobConfig;
 use sharpen::SharpenAnswer;
+use tensor::direction::DirectionAnswer;
 
 pub fn estimate_line_direction<'a>(src: Gray8View<'a>) -> DirectionAnswer
     ensures { λ r. ⌜ r ≡ over directionAnswer (src .entry) ⌝ }
 {
-    blur::tensor::estimate_line_direction(src.data, src.width, src.height, src.stride)
+    tensor::direction::estimate_line_direction(src.data, src.width, src.height, src.stride)
 }
 
 pub fn estimate_line_length_with<'a>(

@@ -1,4 +1,4 @@
--- `views::estimate_line_direction` meets its contract: a walk of its MIR, by hand. What it is passed is taken apart, `blur::tensor::estimate_line_direction` is called on the parts, and its result is handed back. All that the proof knows of the callee is that it meets its contract.
+-- `views::estimate_line_direction` meets its contract: a walk of its MIR, by hand. What it is passed is taken apart, `tensor::direction::estimate_line_direction` is called on the parts, and its result is handed back. All that the proof knows of the callee is that it meets its contract.
 -- What is Copy is had twice, and one copy is kept whole for the exit. Each `&mut` goes to the callee at its own lifetime, share and ghost name, and is given up for good: what the callee says of its last list is what is said at exit. What plain data owns is made anew.
 -- Assumes nothing.
 use mathlib.Core.Path.{_≡_, refl}
@@ -43,17 +43,17 @@ use denote.Triple.Clauses.{ensured, lasts}
 use denote.Struct.Laws as LL
 use denote.Enum.Laws as EL
 use Rattle.blur.proofs.Walk.Free.{frees-all}
-use Rattle.blur.specs.Tensor.{directionAnswer}
+use Rattle.tensor.specs.Tensor.{directionAnswer}
 use Rattle.image.specs.declared.view.Gray8View.{Gray8View}
 use Rattle.image.proofs.view.Gray8View as T0
 use Rattle.image.proofs.view.Gray8View.Laws as T0′
-use Rattle.blur.specs.declared.tensor.DirectionAnswer.{DirectionAnswer}
-use Rattle.blur.proofs.tensor.DirectionAnswer as T1
-use Rattle.blur.proofs.tensor.DirectionAnswer.Laws as T1′
-use Rattle.blur.proofs.tensor.estimate_line_direction as callee
-use Rattle.blur.proofs.tensor.estimate_line_direction.Symbol as callee-def
-use Rattle.blur.proofs.tensor.estimate_line_direction.Symbol.{name as #callee}
-use Rattle.blur.proofs.tensor.estimate_line_direction.Met as callee-thm
+use Rattle.tensor.specs.declared.direction.DirectionAnswer.{DirectionAnswer}
+use Rattle.tensor.proofs.direction.DirectionAnswer as T1
+use Rattle.tensor.proofs.direction.DirectionAnswer.Laws as T1′
+use Rattle.tensor.proofs.direction.estimate_line_direction as callee
+use Rattle.tensor.proofs.direction.estimate_line_direction.Symbol as callee-def
+use Rattle.tensor.proofs.direction.estimate_line_direction.Symbol.{name as #callee}
+use Rattle.tensor.proofs.direction.estimate_line_direction.Met as callee-thm
 use Rattle.views.proofs.estimate_line_direction.Key.{name as #self}
 use Rattle.views.proofs.estimate_line_direction as self
 use Rattle.views.proofs.estimate_line_direction.Statement as stated
@@ -189,4 +189,4 @@ estimate-line-direction-spec 𝓤 H 𝓜 𝓖 𝓡 =
     entered 𝓤 H (tripleOf 𝓤 H (𝓖 .A) self.signature (self.spec 𝓤 H (𝓖 .A) (𝓜 .mem) (𝓡 .run)))
     (tables 𝓤 H 𝓜 𝓡 code.env .C) (tables 𝓤 H 𝓜 𝓡 code.env .Λ) #self code.function (code.unfolded 𝓤 H 𝓜 𝓡)
     (estimate-line-direction-meets 𝓤 H (𝓖 .A) (givenOf 𝓤 H 𝓜 𝓖) (𝓜 .mem) (𝓡 .run) (tablesOf 𝓤 H 𝓜 (tables 𝓤 H 𝓜 𝓡 code.env))
-    (cited 𝓤 H (Callee 𝓤 H (𝓖 .A) (𝓜 .mem) (𝓡 .run)) 𝓜 𝓡 code.env #callee callee-def.routine code.calls-blur·tensor·estimate-line-direction (callee-thm.met 𝓤 H 𝓜 𝓖 𝓡)))
+    (cited 𝓤 H (Callee 𝓤 H (𝓖 .A) (𝓜 .mem) (𝓡 .run)) 𝓜 𝓡 code.env #callee callee-def.routine code.calls-tensor·direction·estimate-line-direction (callee-thm.met 𝓤 H 𝓜 𝓖 𝓡)))

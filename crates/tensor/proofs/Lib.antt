@@ -1,0 +1,6 @@
+-- The laws of `tensor`, by subject.
+pub mod Answer
+pub mod Gradient
+pub mod Same
+pub mod TensorDirection
+pub mod TensorExamples

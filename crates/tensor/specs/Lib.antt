@@ -1,0 +1,2 @@
+-- What the contracts of `tensor` cite.
+pub mod Tensor

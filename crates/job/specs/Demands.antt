@@ -10,7 +10,7 @@
 --   image    layout_refusal, pair_refusal                     image/specs/Refusal: layoutRefusal, pairRefusal
 --   image    pixel_of, row_of                                 image/specs/Picture: pixelOf, rowOf
 --   raster   RasterDirection4::from_angle, step, index        raster/specs/Direction: fromAngle, stepOf, directionIndex
---   blur     estimate_line_direction                          blur/specs/Tensor: directionAnswer
+--   tensor   estimate_line_direction                          tensor/specs/Tensor: directionAnswer
 --   blur     estimate_along, estimate_at                      blur/specs/Length: Estimated
 --   blur     estimate_line_length, estimate_line_length_with  blur/specs/Length: Estimated
 --   deblur   van_cittert_line_into                            deblur/specs/Calls: Filtered, at restorationOf

@@ -1,10 +1,9 @@
--- Document 01's cases of the mean, the restoration, the line unsharp and refusals 7 to 10.
+-- Document 01's cases of the restoration, the line unsharp and refusals 7 to 10.
 use mathlib.Core.Path.{_≡_, refl}
 use mathlib.Core.List.{List, [], _∷_, map}
 use Prim.Native.Nat.{ℕ}
 use lib.IntN.{ℤ, pos, negsuc}
 use lib.Ieee.{Float, binary64, ofBits}
-use lib.ListN.{getD}
 use Rattle.numbers.specs.Scalar.{clampByte}
 use Rattle.numbers.specs.Sum.{total}
 use Rattle.floats.specs.Factor.{within}
@@ -14,21 +13,12 @@ use Rattle.raster.specs.Border.{borderMap}
 use Rattle.raster.specs.Lines.{startCol, startRow, lineOf}
 use Rattle.raster.specs.declared.border.LineBorderMode.the-variants.{Replicate, Constant}
 use Rattle.raster.specs.declared.direction.RasterDirection4.the-variants.{Horizontal, DownLeft}
+use Rattle.line.specs.Line.{sample, window, mean, stepped, after}
 use Rattle.deblur.specs.declared.LineSettings.{LineSettings}
 use Rattle.deblur.specs.declared.LineFilter.{LineFilter}
 use Rattle.deblur.specs.declared.LineFilter.the-variants.{Restoration, Unsharp}
-use Rattle.deblur.specs.Line.{sample, window, mean, stepped, after}
 use Rattle.deblur.specs.Picture.{estimate, estimateOn}
 use Rattle.deblur.specs.Refusal.{settingsRefusal, filterRefusal, estimateRefusal}
-
--- ---- "Mean along a line": samples −1, 0, 0, L = 3, middle: −1
-
-dip : ℕ → ℤ
-dip i = getD (negsuc 0 ∷ pos 0 ∷ pos 0 ∷ []) i (pos 0)
-
-floored : mean (borderMap Replicate 3) dip 3 1 ≡ negsuc 0
-unfolding mean window sample borderMap dip total
-floored = refl
 
 -- ---- "Restoration and line unsharp": row 10 10 40 10 10, L = 3, Replicate, Horizontal
 

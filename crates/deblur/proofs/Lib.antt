@@ -1,17 +1,7 @@
 -- The laws of `deblur`, by subject.
-pub mod BorderByte
 pub mod Examples
 pub mod Factors
-pub mod KernelFirst
-pub mod KernelGather
-pub mod KernelMean
-pub mod KernelRestore
-pub mod KernelStep
-pub mod KernelSum
 pub mod LineByLine
-pub mod LineLaws
-pub mod LineSame
-pub mod LineWithin
 pub mod Outcomes
 pub mod PictureLaws
 pub mod Refusals

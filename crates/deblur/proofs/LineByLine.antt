@@ -18,12 +18,12 @@ use Rattle.raster.specs.declared.lines.ScanLine.{ScanLine}
 use Rattle.raster.proofs.BorderMap.{border-lawful}
 use Rattle.raster.proofs.Place.{line-in}
 use Rattle.raster.proofs.Scatter.{startByte, linesBelow, step-or-one, line-byte-lt, lines-none, lines-whole}
-use Rattle.deblur.specs.declared.kernel.LineKernel.{LineKernel}
-use Rattle.deblur.specs.Kernel.{LineLaid, LineRestored, bytesOn, lineAt as estimateAt}
+use Rattle.line.specs.declared.kernel.LineKernel.{LineKernel}
+use Rattle.line.specs.Kernel.{LineLaid, LineRestored, bytesOn, lineAt as estimateAt}
+use Rattle.line.proofs.LineSame.{after-same}
 use Rattle.deblur.specs.Scatter.{ScatterAsked, Scattered}
 use Rattle.deblur.specs.Lines.{kernelOn, kernelEstimate, ScanLineRestored}
 use Rattle.deblur.specs.Picture.{samples}
-use Rattle.deblur.proofs.LineSame.{after-same}
 use Rattle.deblur.proofs.PictureLaws.{samples-byte, estimate-on, lines-step}
 
 module _ {len w h stride : ℕ} (l : Laid len w h stride) where

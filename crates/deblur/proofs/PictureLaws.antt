@@ -19,12 +19,12 @@ use Rattle.raster.specs.declared.direction.RasterDirection4.{RasterDirection4}
 use Rattle.raster.proofs.Place.{one-line, byte-at}
 use Rattle.raster.proofs.Scatter.{startByte, linesBelow, line-pixels-iff, line-comb, lines-next, comb-place}
 use Rattle.raster.specs.Direction.{fromAngle}
+use Rattle.line.specs.Line.{after}
+use Rattle.line.proofs.LineWithin.{Bounded}
 use Rattle.deblur.specs.declared.LineSettings.{LineSettings}
-use Rattle.deblur.specs.Line.{after}
 use Rattle.deblur.specs.Picture.{samples, estimateOn, estimate}
 use Rattle.deblur.specs.Calls.{estimateOf}
 use Rattle.deblur.specs.Settings.{filterQ16}
-use Rattle.deblur.proofs.LineWithin.{Bounded}
 
 -- ---- the samples of line k
 

@@ -24,9 +24,9 @@ use Rattle.raster.specs.declared.border.LineBorderMode.{LineBorderMode}
 use Rattle.raster.specs.declared.direction.RasterDirection4.{RasterDirection4}
 use Rattle.raster.proofs.BorderMap.{border-lawful}
 use Rattle.raster.proofs.Place.{one-line}
+use Rattle.line.proofs.LineSame.{after-same}
 use Rattle.deblur.specs.Lines.{rowStride, Walked}
 use Rattle.deblur.specs.Picture.{samples, estimate}
-use Rattle.deblur.proofs.LineSame.{after-same}
 use Rattle.deblur.proofs.PictureLaws.{estimate-is, estimate-on}
 
 module _ (w h s : ℕ) where

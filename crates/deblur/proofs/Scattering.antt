@@ -10,7 +10,7 @@ use Rattle.numbers.specs.Written.{Written, comb}
 use Rattle.numbers.proofs.Places.{comb-none, comb-next}
 use Rattle.numbers.proofs.Written.{written-none, written-set}
 use Rattle.raster.proofs.Scatter.{place-back}
-use Rattle.deblur.specs.Kernel.{lineAt}
+use Rattle.line.specs.Kernel.{lineAt}
 use Rattle.deblur.specs.Scatter.{ScatterAsked}
 
 -- the first i places of a line of n are written

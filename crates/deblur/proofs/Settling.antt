@@ -1,11 +1,15 @@
--- Accepted settings, seen by the kernel: what the lines then have (`source-asked`), and that what they wrote is what the call says (`settings-painted`).
+-- Settings, seen by the kernel: their border (`settings-byte`); of accepted ones, what the lines then have (`source-asked`), and that what they wrote is what
+-- the call says (`settings-painted`).
 use mathlib.Core.Path.{_≡_, sym, ap, _∙_}
 use mathlib.Core.Bool.{true}
 use mathlib.Core.List.{List}
 use Prim.Native.Nat.{ℕ, _*_, _^_, _≤_, _<_}
 use native.Mathlib.Omega.{arith}
 use denote.Floats.{passes}
+use denote.Laws.{Is}
+use denote.Struct.Declared.{row as struct-row}
 use lib.IntN.{ℤ}
+use mir.Val.{Val}
 use Rattle.numbers.specs.Written.{Painted}
 use Rattle.numbers.proofs.Written.{painted-same}
 use Rattle.image.specs.Picture.{pixel}
@@ -15,17 +19,22 @@ use Rattle.floats.proofs.Factor.{rounded-le}
 use Rattle.raster.specs.Border.{borderValue}
 use Rattle.raster.specs.Direction.{fromAngle}
 use Rattle.raster.specs.declared.direction.RasterDirection4.{RasterDirection4}
+use Rattle.line.specs.declared.kernel.LineKernel.{LineKernel}
+use Rattle.line.specs.Kernel.{KernelTaken}
+use Rattle.line.proofs.BorderByte.{border-byte}
 use Rattle.deblur.specs.declared.LineFilter.{LineFilter}
 use Rattle.deblur.specs.declared.LineFilter.the-variants.{Restoration, Unsharp}
 use Rattle.deblur.specs.declared.LineSettings.{LineSettings}
-use Rattle.deblur.specs.declared.kernel.LineKernel.{LineKernel}
 use Rattle.deblur.specs.Calls.{estimateOf}
-use Rattle.deblur.specs.Kernel.{KernelTaken}
 use Rattle.deblur.specs.Lines.{rowStride, kernelEstimate, SourceAsked}
 use Rattle.deblur.specs.Refusal.{factorTaken, Settled}
 use Rattle.deblur.specs.Settings.{filterQ16, kernelOf, OneStep}
+use Rattle.deblur.proofs.LineSettings.{the-type}
 use Rattle.deblur.proofs.PictureLaws.{estimate-of-is}
 use Rattle.deblur.proofs.RowStride.{walked, pixel-same, estimate-same}
+
+pub settings-byte : (s : LineSettings) (vs : List Val) → Is (struct-row the-type) s vs → borderValue (s .border) ≤ 255
+settings-byte s vs h = border-byte (s .border) _ (h .1 .1 .1 .1 .1 .1 .0)
 
 q-most : (x : LineFilter) (iterations : ℕ) → factorTaken x ≡ true → OneStep x iterations
     → (filterQ16 x ≤ 524288) × (1 < iterations → filterQ16 x ≤ 65536)

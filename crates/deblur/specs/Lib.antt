@@ -1,9 +1,7 @@
 -- What the contracts of `deblur` cite.
 pub mod Settings
-pub mod Line
 pub mod Picture
 pub mod Refusal
 pub mod Calls
-pub mod Kernel
 pub mod Scatter
 pub mod Lines

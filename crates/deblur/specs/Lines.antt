@@ -10,8 +10,8 @@ use Rattle.image.specs.Refusal.{Laid}
 use Rattle.raster.specs.Lines.{lineLength, lineAt}
 use Rattle.raster.specs.declared.direction.RasterDirection4.{RasterDirection4}
 use Rattle.raster.specs.declared.lines.ScanLine.{ScanLine}
-use Rattle.deblur.specs.declared.kernel.LineKernel.{LineKernel}
-use Rattle.deblur.specs.Kernel.{KernelTaken, lineAt as estimateAt}
+use Rattle.line.specs.declared.kernel.LineKernel.{LineKernel}
+use Rattle.line.specs.Kernel.{KernelTaken, lineAt as estimateAt}
 use Rattle.deblur.specs.Picture.{estimateOn, estimate}
 
 -- A picture of one row has no next row, so that every stride from its width on is accepted and says nothing: the width stands for it.

@@ -6,7 +6,7 @@ use Rattle.raster.specs.declared.border.LineBorderMode.{LineBorderMode}
 use Rattle.raster.specs.declared.direction.RasterDirection4.{RasterDirection4}
 use Rattle.raster.specs.Border.{borderMap}
 use Rattle.raster.specs.Lines.{lineLength, colAt, rowAt, lineOf, placeOf}
-use Rattle.deblur.specs.Line.{after}
+use Rattle.line.specs.Line.{after}
 
 -- the samples of line k
 abbrev pub samples : (ℕ → ℕ → ℕ) → RasterDirection4 → ℕ → ℕ → ℕ → ℤ

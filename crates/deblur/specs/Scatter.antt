@@ -4,7 +4,7 @@ use mathlib.Core.List.{List}
 use mathlib.Core.Logic.{_⊎_}
 use lib.IntN.{ℤ}
 use Rattle.numbers.specs.Written.{Written, comb}
-use Rattle.deblur.specs.Kernel.{LineLaid, lineAt}
+use Rattle.line.specs.Kernel.{LineLaid, lineAt}
 
 -- the destination has the line's places, and each is its own
 pub record ScatterAsked (dstLen start step n scratchLen : ℕ) : Type 0 where

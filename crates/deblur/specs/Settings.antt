@@ -5,12 +5,12 @@ use lib.Ieee.{binary64, ofBits}
 use Rattle.floats.specs.Factor.{roundedQ16, quantized}
 use Rattle.floats.specs.declared.Quantized.{Quantized}
 use Rattle.raster.specs.declared.border.LineBorderMode.the-variants.{Replicate}
+use Rattle.line.specs.declared.kernel.LineKernel.{LineKernel}
 use Rattle.deblur.specs.declared.VanCittertConfig.{VanCittertConfig}
 use Rattle.deblur.specs.declared.DirectionalUnsharpConfig.{DirectionalUnsharpConfig}
 use Rattle.deblur.specs.declared.LineFilter.{LineFilter}
 use Rattle.deblur.specs.declared.LineFilter.the-variants.{Restoration, Unsharp}
 use Rattle.deblur.specs.declared.LineSettings.{LineSettings}
-use Rattle.deblur.specs.declared.kernel.LineKernel.{LineKernel}
 
 -- angle 0.0, length 3, 3 iterations, relaxation 1.0, Replicate
 unfoldable pub vanCittertDefault : VanCittertConfig

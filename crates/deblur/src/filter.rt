@@ -9,13 +9,13 @@ use crate::LineFilter;
 use crate::LineSettings;
 use crate::RestorationAnswer;
 use crate::RestorationMetadata;
-use crate::kernel::LineKernel;
 use crate::lines::estimate_lines_into;
 use crate::lines::restore_lines_into;
 use crate::refusal::estimate_refusal;
 use crate::refusal::filter_refusal;
 use crate::refusal::quantize_filter;
 use floats::Quantized;
+use line::kernel::LineKernel;
 use raster::direction::RasterDirection4;
 
 // q of a factor that is taken.

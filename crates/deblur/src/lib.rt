@@ -8,7 +8,6 @@ use raster::border::LineBorderMode;
 use raster::direction::RasterDirection4;
 
 mod filter;
-pub mod kernel;
 mod lines;
 pub mod refusal;
 mod scatter;

@@ -10,7 +10,7 @@ use Rattle.raster.specs.Border.{borderMap}
 use Rattle.raster.specs.Lines.{startCol, startRow, lineOf}
 use Rattle.raster.specs.declared.border.LineBorderMode.the-variants.{Replicate, Constant}
 use Rattle.raster.specs.declared.direction.RasterDirection4.the-variants.{Horizontal, DownLeft}
-use Rattle.deblur.specs.Line.{sample, window, mean, stepped, after}
+use Rattle.line.specs.Line.{sample, window, mean, stepped, after}
 use Rattle.deblur.specs.Picture.{estimate, estimateOn}
 use Rattle.job.specs.Exact.{scaleOf, exactWindow, exact, exactEstimate, exactValue}
 use Rattle.job.specs.Near.{LessFrom, bound, cutNumerator}

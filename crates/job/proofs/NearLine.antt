@@ -16,8 +16,8 @@ use Rattle.numbers.proofs.Int.Size.{natAbs-add, natAbs-sub, natAbs-mul}
 use Rattle.numbers.proofs.Sum.{total-scale, total-sub, total-within}
 use Rattle.raster.specs.declared.border.BorderSample.{BorderSample}
 use Rattle.raster.specs.declared.border.BorderSample.the-variants.{Inside, Outside}
-use Rattle.deblur.specs.Line.{fromSource, sample, window, mean, stepped, after}
-use Rattle.deblur.proofs.LineLaws.{mean-is, stepped-is, after-zero, after-suc}
+use Rattle.line.specs.Line.{fromSource, sample, window, mean, stepped, after}
+use Rattle.line.proofs.LineLaws.{mean-is, stepped-is, after-zero, after-suc}
 use Rattle.job.specs.Exact.{scaleOf, exactSource, exactWindow, exact}
 use Rattle.job.specs.Near.{Near, bound, boundAtOne}
 use Rattle.job.proofs.ExactLaws.{exact-zero, exact-suc}

@@ -10,8 +10,8 @@ use Rattle.image.specs.Refusal.{layoutRefusal, pairRefusal}
 use Rattle.raster.specs.Border.{borderMap}
 use Rattle.raster.specs.Direction.{fromAngle}
 use Rattle.raster.specs.Lines.{startCol, startRow, lineOf}
+use Rattle.line.specs.Line.{sample, window, mean, stepped, after}
 use Rattle.deblur.specs.Calls.{estimateOf}
-use Rattle.deblur.specs.Line.{sample, window, mean, stepped, after}
 use Rattle.deblur.specs.Picture.{estimateOn, estimate}
 use Rattle.deblur.specs.Refusal.{settingsRefusal, filterRefusal}
 use Rattle.sharpen.specs.Binomial.{tapPlace, binomialSum, sharper}

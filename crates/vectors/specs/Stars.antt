@@ -22,6 +22,7 @@ use Rattle.raster.specs.declared.border.BorderSample.{BorderSample}
 use Rattle.raster.specs.declared.border.BorderSample.the-variants.{Inside}
 use Rattle.raster.specs.declared.direction.RasterDirection4.{RasterDirection4}
 use Rattle.raster.specs.declared.direction.RasterDirection4.the-variants.{Horizontal, DownRight}
+use Rattle.line.specs.Line.{sample, window, mean, stepped, after}
 use Rattle.blur.specs.Length.{lengthAnswer}
 use Rattle.blur.specs.Rise.{levelOf, crossedAt, placeAt, crossingOf, riseBetween}
 use Rattle.blur.specs.Swings.{swingsFrom}
@@ -30,7 +31,6 @@ use Rattle.blur.specs.declared.length.LengthAnswer.{LengthAnswer}
 use Rattle.blur.specs.declared.length.LengthAnswer.the-variants.{Length}
 use Rattle.blur.specs.declared.length.LineLength.the-variants.{Found, Nothing}
 use Rattle.deblur.specs.Calls as calls
-use Rattle.deblur.specs.Line.{sample, window, mean, stepped, after}
 use Rattle.deblur.specs.Picture.{estimate, estimateOn}
 use Rattle.deblur.specs.Refusal as deblur
 use Rattle.deblur.specs.Settings.{restorationOf, unsharpOf}

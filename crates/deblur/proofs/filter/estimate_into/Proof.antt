@@ -4,11 +4,10 @@ use mathlib.Core.Path.{sym, _∙_}
 use borrow.Author.Needs.{needs}
 use lib.ListN.{length}
 use Rattle.deblur.specs.Refusal.{EstimateAccepted}
-use Rattle.deblur.proofs.BorderByte.{settings-byte}
 use Rattle.deblur.proofs.Outcomes.{outcome-refused, outcome-done}
 use Rattle.deblur.proofs.Refusals.{estimate-accepted}
 use Rattle.deblur.proofs.RowStride.{walked-tight}
-use Rattle.deblur.proofs.Settling.{source-asked, settings-painted}
+use Rattle.deblur.proofs.Settling.{settings-byte, source-asked, settings-painted}
 use Rattle.deblur.proofs.filter.estimate_into.Statement.{statement}
 use Rattle.deblur.proofs.filter.estimate_into.Tie as tie
 

@@ -7,11 +7,10 @@ use Rattle.numbers.specs.Scalar.{clampByte}
 use Rattle.image.specs.Refusal.{Laid}
 use Rattle.deblur.specs.Calls.{estimateOf}
 use Rattle.deblur.specs.Refusal.{FilterAccepted}
-use Rattle.deblur.proofs.BorderByte.{settings-byte}
 use Rattle.deblur.proofs.Outcomes.{outcome-refused, outcome-done}
 use Rattle.deblur.proofs.Refusals.{filter-accepted}
 use Rattle.deblur.proofs.RowStride.{walked, painted-stride}
-use Rattle.deblur.proofs.Settling.{source-asked, settings-painted}
+use Rattle.deblur.proofs.Settling.{settings-byte, source-asked, settings-painted}
 use Rattle.deblur.proofs.filter.filter_into.Statement.{statement}
 use Rattle.deblur.proofs.filter.filter_into.Tie as tie
 

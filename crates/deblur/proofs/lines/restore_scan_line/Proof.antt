@@ -5,7 +5,7 @@ use mathlib.Core.Path.{refl}
 use borrow.Author.Needs.{needs}
 use lib.ListN.{length}
 use Rattle.raster.specs.Lines.{byteOf}
-use Rattle.deblur.proofs.BorderByte.{kernel-byte}
+use Rattle.line.proofs.BorderByte.{kernel-byte}
 use Rattle.deblur.proofs.LineByLine.{line-start, line-laid, line-estimates}
 use Rattle.deblur.proofs.lines.restore_scan_line.Statement.{statement}
 use Rattle.deblur.proofs.lines.restore_scan_line.Tie as tie

@@ -8,7 +8,7 @@ use mir.ValLaws.{toZ-ofZ}
 use lib.ListN.{length}
 use mathlib.Core.Path.{_≡_, ap, _∙_}
 use Rattle.numbers.specs.Scalar.{clampByte}
-use Rattle.deblur.specs.Kernel.{lineAt}
+use Rattle.line.specs.Kernel.{lineAt}
 use Rattle.deblur.proofs.Scattering.{ScatteredTo, scatter-none, scatter-next, place-in}
 use Rattle.deblur.proofs.scatter.scatter_u8.Statement.{statement}
 use Rattle.deblur.proofs.scatter.scatter_u8.Tie as tie

@@ -1,0 +1,83 @@
+-- What the definitions of a line say, one law for each, so that no other file unfolds them: `sample-is`, `window-is`, `mean-is`, `stepped-is`,
+-- `after-zero`, `after-next`. Then the sample at a place of the line, the window's slide, and the step with q = 65,536.
+use mathlib.Core.Path.{_≡_, refl, sym, ap, _∙_}
+use Prim.Native.Nat.{ℕ, suc, _+_, _-_, _/_, _≤_, _<_}
+use native.Mathlib.Nat.{add-comm, zero-lt-suc}
+use native.Mathlib.Numerals.{add-one}
+use native.Mathlib.Omega.{arith}
+use borrow.Author.Tests.{le-ltb}
+use lib.IntN.{ℤ, pos, subℕ, _+ℤ_, _-ℤ_, _*ℤ_, *ℤ-comm}
+use lib.Signed.{shrZ, quotZ}
+use Rattle.numbers.specs.Sum.{total}
+use Rattle.numbers.proofs.Int.Divide.{quot-exact}
+use Rattle.numbers.proofs.Sum.{total-same, total-shift, total-slide}
+use Rattle.raster.specs.Border.{Lawful}
+use Rattle.raster.specs.declared.border.BorderSample.{BorderSample}
+use Rattle.raster.specs.declared.border.BorderSample.the-variants.{Inside, Outside}
+use Rattle.line.specs.Line.{fromSource, sample, window, mean, stepped, after}
+
+module _ (m : ℤ → BorderSample) (f : ℕ → ℤ) where
+  pub sample-is : (p : ℤ) → sample m f p ≡ fromSource f (m p)
+  unfolding sample
+  sample-is p = refl
+
+  -- where the map says that the sample comes from
+  pub sample-inside : (p : ℤ) {i : ℕ} → m p ≡ Inside i → sample m f p ≡ f i
+  sample-inside p e = sample-is p ∙ ap (fromSource f) e
+
+  pub sample-outside : (p : ℤ) {v : ℕ} → m p ≡ Outside v → sample m f p ≡ pos v
+  sample-outside p e = sample-is p ∙ ap (fromSource f) e
+
+  -- the window as a sum over shifted places u, which stand for u − L/2: from u = p on
+  pub window-is : (L p : ℕ) → window m f L p ≡ total (λ u. sample m f (subℕ u (L / 2))) p L
+  unfolding window
+  window-is L p =
+      total-same (λ u. sample m f (subℕ (p + u) (L / 2))) (λ u. sample m f (subℕ (u + p) (L / 2))) 0 L
+      (λ u _ _. ap (λ (k : ℕ). sample m f (subℕ k (L / 2))) (add-comm p u))
+      ∙ total-shift (λ u. sample m f (subℕ u (L / 2))) 0 p L
+      ∙ ap (λ (k : ℕ). total (λ u. sample m f (subℕ u (L / 2))) k L) (omega arith)
+
+  -- one place on: the sample behind the window comes in, its first goes out
+  pub window-slide : (L p : ℕ) → window m f L (p + 1) ≡ window m f L p +ℤ sample m f (subℕ (p + L) (L / 2)) -ℤ sample m f (subℕ p (L / 2))
+  window-slide L p =
+      window-is L (p + 1)
+      ∙ ap (λ (k : ℕ). total (λ u. sample m f (subℕ u (L / 2))) k L) (add-one p)
+      ∙ total-slide (λ u. sample m f (subℕ u (L / 2))) p L
+      ∙ ap (λ (z : ℤ). z +ℤ sample m f (subℕ (p + L) (L / 2)) -ℤ sample m f (subℕ p (L / 2))) (sym (window-is L p))
+
+  pub mean-is : (L p : ℕ) → mean m f L p ≡ shrZ (window m f L p) L
+  unfolding mean
+  mean-is L p = refl
+
+-- a place u − half of the line
+pub sample-at : {n : ℕ} {m : ℤ → BorderSample} → Lawful n m → (f : ℕ → ℤ) (u half : ℕ) → half ≤ u → u < half + n
+    → sample m f (subℕ u half) ≡ f (u - half)
+sample-at {m = m} l f u half h k =
+    sample-inside m f (subℕ u half) (ap m (simp (le-ltb u half h)) ∙ l .inside (u - half) (omega arith))
+
+module _ (m : ℤ → BorderSample) (b : ℕ → ℤ) (q L : ℕ) where
+  pub stepped-is : (y : ℕ → ℤ) (p : ℕ) → stepped m b q L y p ≡ y p +ℤ quotZ ((b p -ℤ mean m y L p) *ℤ pos q) (pos 65536)
+  unfolding stepped
+  stepped-is y p = refl
+
+  pub after-zero : (p : ℕ) → after m b q L 0 p ≡ b p
+  unfolding after
+  after-zero p = refl
+
+  pub after-one : (p : ℕ) → after m b q L 1 p ≡ stepped m b q L b p
+  unfolding after
+  after-one p = refl
+
+  pub after-suc : (k p : ℕ) → after m b q L (suc k) p ≡ stepped m b q L (after m b q L k) p
+  unfolding after
+  after-suc k p = refl
+
+  pub after-next : (k p : ℕ) → after m b q L (k + 1) p ≡ stepped m b q L (after m b q L k) p
+  after-next k p = ap (λ (j : ℕ). after m b q L j p) (add-one k) ∙ after-suc k p
+
+-- relaxation 1: the quotient is the residual itself
+pub stepped-whole : (m : ℤ → BorderSample) (b : ℕ → ℤ) (L : ℕ) (y : ℕ → ℤ) (p : ℕ) → stepped m b 65536 L y p ≡ y p +ℤ (b p -ℤ mean m y L p)
+stepped-whole m b L y p =
+    stepped-is m b 65536 L y p
+    ∙ ap (λ (z : ℤ). y p +ℤ quotZ z (pos 65536)) (*ℤ-comm (b p -ℤ mean m y L p) (pos 65536))
+    ∙ ap (y p +ℤ_) (quot-exact (zero-lt-suc 65535) (b p -ℤ mean m y L p))

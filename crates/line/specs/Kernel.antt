@@ -1,0 +1,106 @@
+-- What the restoration of one line asks and does (document 01, "Restoration and line unsharp"). A line's scratch has three parts of n:
+-- the observed samples B at 0..n, the estimate Yk at n..2n, the mean of Yk at 2n..3n.
+use mathlib.Core.Path.{_≡_}
+use mathlib.Core.List.{List}
+use Prim.Native.Nat.{ℕ, zero, suc, _+_, _-_, _*_, _/_, _≤_, _<_}
+use lib.IntN.{ℤ, pos, natAbs, subℕ, _+ℤ_, _-ℤ_, _*ℤ_}
+use lib.ListN.{length, getD}
+use lib.Signed.{quotZ}
+use Rattle.numbers.specs.Sum.{total}
+use Rattle.numbers.specs.Written.{Written, part}
+use Rattle.raster.specs.Border.{borderMap, borderValue}
+use Rattle.line.specs.declared.kernel.LineKernel.{LineKernel}
+use Rattle.line.specs.declared.kernel.MeanSettings.{MeanSettings}
+use Rattle.line.specs.Line.{sample, window, mean, after}
+
+-- ---- one line
+
+-- a line of 1 to 1,024 pixels, the first at start, each step behind the one before it, and three parts of scratch
+pub record LineLaid (dataLen start step n scratchLen : ℕ) : Type 0 where
+  pub some : 1 ≤ n
+  pub short : n ≤ 1024
+  pub reached : start + (n - 1) * step < dataLen
+  pub room : 3 * n ≤ scratchLen
+
+-- The settings that the calls accept: a length up to 2,049 and at most 22 iterations; a relaxation is at most 1, a gain at most 8 and of one
+-- iteration.
+pub record KernelTaken (k : LineKernel) : Type 0 where
+  pub long : 1 ≤ k .«blur_length»
+  pub bounded : k .«blur_length» ≤ 2049
+  pub iterated : k .iterations ≤ 22
+  pub gain : k .q ≤ 524288
+  pub relaxation : 1 < k .iterations → k .q ≤ 65536
+
+-- the samples of a line of bytes
+abbrev pub bytesOn : List ℕ → ℕ → ℕ → ℕ → ℤ
+bytesOn bytes start step i = pos (getD bytes (start + i * step) 0)
+
+-- the part of the scratch from a on, as a line
+abbrev pub lineAt : ℕ → List ℤ → ℕ → ℤ
+lineAt a scratch i = getD scratch (a + i) (pos 0)
+
+-- the estimate part holds the last estimate
+abbrev pub LineRestored : List ℕ → ℕ → ℕ → ℕ → LineKernel → List ℤ → Type 0
+LineRestored bytes start step n k scratch =
+    (i : ℕ) → i < n → lineAt n scratch i ≡ after (borderMap (k .border) n) (bytesOn bytes start step) (k .q) (k .«blur_length») (k .iterations) i
+
+-- ---- its parts
+
+-- observed samples and estimate both hold f
+pub record Gathered (f : ℕ → ℤ) (n : ℕ) (scratch : List ℤ) : Type 0 where
+  pub observed : (i : ℕ) → i < n → lineAt 0 scratch i ≡ f i
+  pub estimate : (i : ℕ) → i < n → lineAt n scratch i ≡ f i
+
+-- How large an estimate may be. Division by L is a multiplication by its reciprocal r (in units of 2^-42), right for samples up to 2^18; r = 0 stands
+-- for a division, and 255 × (2^22 − 1) for what 21 iterations give.
+abbrev pub largest : ℕ → ℕ
+largest zero = 1069547265
+largest (suc r) = 262144
+
+pub record Reciprocal (L r : ℕ) : Type 0 where
+  pub long : 1 ≤ L
+  pub bounded : L ≤ 2049
+  pub units : 0 < r → r ≡ 4398046511104 / L + 1
+
+-- a line in the scratch whose mean is taken
+pub record MeanAsked (s : MeanSettings) (scratch : List ℤ) : Type 0 where
+  pub some : 1 ≤ s .n
+  pub short : s .n ≤ 1024
+  pub room : 3 * s .n ≤ length scratch
+  pub value : borderValue (s .border) ≤ 255
+  pub divides : Reciprocal (s .«blur_length») (s .reciprocal)
+  pub small : (i : ℕ) → i < s .n → natAbs (lineAt (s .n) scratch i) ≤ largest (s .reciprocal)
+
+-- the window of the estimate at place p
+abbrev pub windowAt : MeanSettings → List ℤ → ℕ → ℤ
+windowAt s scratch p = window (borderMap (s .border) (s .n)) (lineAt (s .n) scratch) (s .«blur_length») p
+
+-- the sum of the first u samples of the window at place 0
+abbrev pub opening : MeanSettings → List ℤ → ℕ → ℤ
+opening s scratch u = total (λ v. sample (borderMap (s .border) (s .n)) (lineAt (s .n) scratch) (subℕ v (s .«blur_length» / 2))) 0 u
+
+-- the means from place a to place e (not included) are written
+pub record MeansWritten (s : MeanSettings) (a e : ℕ) (old new : List ℤ) : Type 0 where
+  pub written :
+      Written (pos 0) (part (s .n + s .n + a) (e - a)) (λ j. mean (borderMap (s .border) (s .n)) (lineAt (s .n) old) (s .«blur_length») (j - (s .n + s .n))) old new
+
+-- one step from y, with the observed b and the mean m
+abbrev pub stepFrom : ℕ → ℤ → ℤ → ℤ → ℤ
+stepFrom q b m y = y +ℤ quotZ ((b -ℤ m) *ℤ pos q) (pos 65536)
+
+-- what the step of one sample asks: a byte, a mean of at most 21 iterations, and a result that fits
+pub record SampleStep (y b m : ℤ) (q : ℕ) : Type 0 where
+  pub byte : natAbs b ≤ 255
+  pub small : natAbs m ≤ 1069547265
+  pub gain : q ≤ 524288
+  pub fits : natAbs (stepFrom q b m y) < 2147483648
+
+-- what the step of a line asks
+pub record StepAsked (n q : ℕ) (scratch : List ℤ) : Type 0 where
+  pub short : n ≤ 1024
+  pub room : 3 * n ≤ length scratch
+  pub each : (i : ℕ) → i < n → SampleStep (lineAt n scratch i) (lineAt 0 scratch i) (lineAt (n + n) scratch i) q
+
+-- the first k samples of the estimate have gone one step
+pub record LineStepped (n k q : ℕ) (old new : List ℤ) : Type 0 where
+  pub written : Written (pos 0) (part n k) (λ j. stepFrom q (lineAt 0 old (j - n)) (lineAt (n + n) old (j - n)) (lineAt n old (j - n))) old new

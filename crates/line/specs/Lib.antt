@@ -1,0 +1,3 @@
+-- What the contracts of `line` cite.
+pub mod Line
+pub mod Kernel

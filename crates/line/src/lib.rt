@@ -1,0 +1,2 @@
+// One line: its mean, and its restoration in a lent scratch.
+pub mod kernel;

@@ -163,7 +163,7 @@ fn direct(c: Case, source: &[u8]) -> Outcome {
 }
 
 // The case's call. One that does not exist has an outcome that no case has.
-pub fn call(c: Case, source: &[u8], destination: &mut [u8]) -> Outcome {
+pub(crate) fn call(c: Case, source: &[u8], destination: &mut [u8]) -> Outcome {
     let call = c.call;
     match call {
         0 => directed(RasterDirection4::from_angle(c.angle)),
@@ -182,6 +182,6 @@ fn rust_number(number: u8) -> u8 {
 }
 
 // A length is never 0 and never a NaN, so equal doubles have equal bits.
-pub fn agrees(o: Outcome, c: Case) -> bool {
+pub(crate) fn agrees(o: Outcome, c: Case) -> bool {
     (rust_number(o.number) == c.number) & (o.found == c.found) & (o.estimate == c.estimate)
 }

@@ -89,7 +89,7 @@ fn layout_at(bytes: &[u8], at: usize) -> Layout
     }
 }
 
-pub fn case_in(bytes: &[u8]) -> Case {
+pub(crate) fn case_in(bytes: &[u8]) -> Case {
     let source = layout_at(bytes, 10);
     let destination = layout_at(bytes, 18);
     Case {
@@ -110,7 +110,7 @@ pub fn case_in(bytes: &[u8]) -> Case {
 }
 
 // How many bytes the case at the front has.
-pub fn size_at(bytes: &[u8]) -> usize
+pub(crate) fn size_at(bytes: &[u8]) -> usize
     ensures { λ r. ⌜ (0 < r) × (r ≤ 131120) ⌝ }
 {
     50 + u16_at(bytes, 10) + u16_at(bytes, 18)
@@ -125,7 +125,7 @@ fn behind(bytes: &[u8], n: usize) -> &[u8] {
 }
 
 // The source's bytes; none where there are fewer.
-pub fn source_in(bytes: &[u8], c: Case) -> &[u8] {
+pub(crate) fn source_in(bytes: &[u8], c: Case) -> &[u8] {
     let rest = behind(bytes, 50);
     let n = c.source.len;
     if rest.len() < n {
@@ -135,6 +135,6 @@ pub fn source_in(bytes: &[u8], c: Case) -> &[u8] {
 }
 
 // The destination's bytes are the rest.
-pub fn destination_in(bytes: &[u8], c: Case) -> &[u8] {
+pub(crate) fn destination_in(bytes: &[u8], c: Case) -> &[u8] {
     behind(behind(bytes, 50), c.source.len)
 }

@@ -7,7 +7,7 @@ use blur::length::estimate_at;
 use blur::swings::Swing;
 
 // The length of a picture of at most 256 pixels. Its contract says nothing of the records, so whoever calls it needs no walk.
-pub fn length_at(
+pub(crate) fn length_at(
     data: &[u8],
     width: usize,
     height: usize,

@@ -3,12 +3,12 @@
 use mathlib.Core.Path.{_≡_, refl, _∙_, ap}
 use mathlib.Core.Bool.{Bool, true, false, cond, not, _&&_, _||_, and-false, true≢false}
 use mathlib.Core.List.{List, []}
-use Prim.Native.Nat.{ℕ, _+_, _-_, _*_, _≤_, _<_, _^_, max}
+use Prim.Native.Nat.{ℕ, _+_, _-_, _*_, _≤_, _<_, _^_}
 use native.Mathlib.Nat.{mul-le-mul-left, mul-le-mul}
 use native.Mathlib.Omega.{arith}
 use lib.Dec.{eqb, ltb}
 use lib.ListN.{length}
-use lib.Ieee.{Float}
+use lib.Ieee.{Float, binary64}
 use borrow.Author.Tests.{eq-eqb, ne-eqb, lt-ltb, le-ltb, ltb-false}
 use Rattle.image.specs.Refusal.{layoutRefusal, Laid}
 use Rattle.image.proofs.Chain.{first-own, first-zero, cond-zero}
@@ -16,7 +16,6 @@ use Rattle.image.proofs.Refusal.{laid}
 use Rattle.numbers.specs.Sum.{count}
 use Rattle.numbers.proofs.Sum.{count-zero, count-next}
 use Rattle.raster.specs.declared.direction.RasterDirection4.{RasterDirection4}
-use Rattle.raster.specs.declared.direction.RasterDirection4.the-variants.{Horizontal, DownRight, Vertical, DownLeft}
 use Rattle.raster.specs.Lines.{lineCount, lineLength, placeStep}
 use Rattle.raster.proofs.Area.{area}
 use Rattle.blur.specs.declared.swings.Swing.{Swing}
@@ -26,10 +25,14 @@ use Rattle.blur.specs.Line.{linesOf, firstLines, pixelOf, InCourse}
 use Rattle.blur.specs.Swings.{swings, swingsFrom}
 use Rattle.blur.specs.Scan.{rest, begun, Bytes}
 use Rattle.blur.specs.Median.{lengthOf}
-use Rattle.blur.specs.Select.{Widths}
+use Rattle.blur.specs.Select.{Positive, Widths}
 use Rattle.blur.specs.Length.{lengthRefusal, tooLittle, lengthAlong, scanned, courseOf}
 use Rattle.blur.proofs.Count.{picture-count}
-use Rattle.blur.proofs.Width.{picture-sound, pixel-of-sound, all-widths}
+use Rattle.blur.proofs.Small.{Small}
+use Rattle.blur.proofs.Positive.{AboveZero, of-above}
+use Rattle.blur.proofs.Each.{each-both}
+use Rattle.blur.proofs.Above.{line-short, picture-above}
+use Rattle.blur.proofs.Width.{picture-small}
 
 -- ---- refusals
 module _ (len w h stride lent : ℕ) where
@@ -146,14 +149,10 @@ module _ (bytes : List ℕ) (lent w h stride : ℕ) (d : RasterDirection4) (m a 
   -- widths as the selection takes them
   pub course-widths : Bytes bytes → Widths all
   course-widths are =
-      all-widths all
-      (picture-sound a (pixelOf d) (pixel-of-sound d) (firstLines (course .count) bytes d w h stride) (λ k j. are _) (λ k. omega (arith, short d k, l .width-most, l .height-most)) 0 0 (course .count - 0))
+      each-both (λ (s : Swing). AboveZero (s .width)) (λ (s : Swing). Small 7156 (s .width)) (λ (s : Swing). Positive binary64 (s .width))
+      (λ s e small. record { above = of-above 7156 (s .width) (e .above) small; holds = e .holds }) all
+      (picture-above a (course .count) bytes d w h stride 0 0 (course .count - 0))
+      (picture-small a d (firstLines (course .count) bytes d w h stride) (λ k j. are _) (λ k. omega (arith, line-short d w h k, l .width-most, l .height-most)) 0 0 (course .count - 0))
     where
       l : Laid (length bytes) w h stride
       l = length-laid (length bytes) w h stride lent e
-
-      short : (v : RasterDirection4) (k : ℕ) → lineLength v w h k ≤ max w h
-      short Horizontal k = omega arith
-      short DownRight k = omega arith
-      short Vertical k = omega arith
-      short DownLeft k = omega arith

@@ -1,17 +1,27 @@
--- A fact of each element of a list, and what insertion sort keeps of it: the facts of the elements, and the order under a map that respects it.
+-- A fact of each element of a list, and what insertion sort keeps of it: the facts of the elements, so that the median has it, and the order under a map that
+-- respects it.
 use mathlib.Core.Path.{_≡_, refl, ap, _∙_}
 use mathlib.Core.Bool.{Bool, true, false, cond}
-use mathlib.Core.List.{List, [], _∷_, map}
-use Prim.Native.Nat.{ℕ, zero, suc, _<_}
+use mathlib.Core.List.{List, [], _∷_, _++_, map}
+use Prim.Native.Nat.{ℕ, zero, suc, _/_, _<_}
 use native.Mathlib.Omega.{arith}
 use lib.ListN.{length, getD, take}
-use Rattle.blur.specs.Median.{insert, sort}
+use lib.Ieee.{Float, nan, le}
+use Rattle.blur.specs.Median.{insert, sort, median}
 use Rattle.blur.specs.Select.{Each}
 
 module _ {A : Type 0} (P : A → Type 0) where
   pub each-map : (Q : A → Type 0) → ((x : A) → P x → Q x) → (l : List A) → Each P l → Each Q l
   each-map Q f [] e = tt
   each-map Q f (x ∷ l) e = (f x (e .0), each-map Q f l (e .1))
+
+  pub each-both : (Q R : A → Type 0) → ((x : A) → P x → Q x → R x) → (l : List A) → Each P l → Each Q l → Each R l
+  each-both Q R f [] e d = tt
+  each-both Q R f (x ∷ l) e d = (f x (e .0) (d .0), each-both Q R f l (e .1) (d .1))
+
+  pub each-append : (l m : List A) → Each P l → Each P m → Each P (l ++ m)
+  each-append [] m e d = d
+  each-append (x ∷ l) m e d = (e .0, each-append l m (e .1) d)
 
   pub each-at : (l : List A) (k : ℕ) (d : A) → Each P l → k < length l → P (getD l k d)
   each-at [] k d e h = absurd (omega arith)
@@ -48,6 +58,9 @@ module _ {A : Type 0} (before : A → A → Bool) where
   pub length-sort : (l : List A) → length (sort before l) ≡ length l
   length-sort [] = refl
   length-sort (x ∷ l) = length-insert x (sort before l) ∙ ap suc (length-sort l)
+
+pub median-each : (P : Float → Type 0) (ws : List Float) → Each P ws → 0 < length ws → P (median ws)
+median-each P ws e h = each-at P (sort le ws) (length ws / 2) nan (each-sort P le ws e) (omega (arith, length-sort le ws))
 
 -- ---- a map that respects the order maps the sorted list to the sorted list
 module _ {A B : Type 0} (f : A → B) (P : A → Type 0) (r : A → A → Bool) (q : B → B → Bool) (same : (x y : A) → P x → P y → r x y ≡ q (f x) (f y)) where

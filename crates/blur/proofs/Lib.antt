@@ -1,7 +1,9 @@
 -- The laws of `blur`, by subject.
+pub mod Above
 pub mod Count
 pub mod Courses
 pub mod Each
+pub mod EachSwing
 pub mod Estimate
 pub mod Filling
 pub mod Keys

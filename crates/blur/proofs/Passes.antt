@@ -22,11 +22,11 @@ use Rattle.blur.proofs.Radix.{having}
 abbrev pub keys : ℤ → List Swing → List ℕ
 keys top l = map (toBits binary64) (kept top l)
 
-pub kept-positive : (top : ℤ) (l : List Swing) → Widths l → Each (Positive binary64) (kept top l)
-kept-positive top [] e = tt
-kept-positive top (s ∷ l) e = go (stays top s) (kept-positive top l (e .1))
+pub kept-each : (P : Float → Type 0) (top : ℤ) (l : List Swing) → Each (λ (s : Swing). P (s .width)) l → Each P (kept top l)
+kept-each P top [] e = tt
+kept-each P top (s ∷ l) e = go (stays top s) (kept-each P top l (e .1))
   where
-    go : (b : Bool) → Each (Positive binary64) (kept top l) → Each (Positive binary64) (cond b (s .width ∷ kept top l) (kept top l))
+    go : (b : Bool) → Each P (kept top l) → Each P (cond b (s .width ∷ kept top l) (kept top l))
     go true r = (e .0, r)
     go false r = r
 
@@ -35,7 +35,7 @@ bits-lt [] e = tt
 bits-lt (x ∷ ws) e = (toBits-lt binary64 x (e .0 .holds), bits-lt ws (e .1))
 
 pub keys-lt : (top : ℤ) (l : List Swing) → Widths l → Each (_< 2 ^ 64) (keys top l)
-keys-lt top l e = bits-lt (kept top l) (kept-positive top l e)
+keys-lt top l e = bits-lt (kept top l) (kept-each (Positive binary64) top l e)
 
 pub length-keys : (top : ℤ) (l : List Swing) → length (keys top l) ≡ length (kept top l)
 length-keys top l = length-map (kept top l) (toBits binary64)

@@ -1,7 +1,7 @@
--- Where a double is positive: finite and above zero. The difference of two doubles of bounded size is, if the first is the larger: it is not rounded to zero.
--- So is a product by what is at least 1.
+-- Where a double is above zero: the difference of two doubles is, if the first is the larger, since it is not rounded to zero. So are a product by what is at least 1
+-- and a quotient by what is at most 1. Each may be infinite; what is above zero and of bounded size is finite too (`of-above`).
 use Prim.Native.Nat.{ℕ, zero, suc, _+_, _-_, _*_, _%_, _^_, _≤_, _<_}
-use native.Mathlib.Nat.{le-trans, le-of-eq, mul-comm, mul-assoc, one-mul, mul-pos, mul-le-mul, mul-le-mul-left, mul-le-mul-right, add-mul, mul-sub, mul-mul-mul-comm}
+use native.Mathlib.Nat.{le-trans, le-of-eq, mul-comm, mul-assoc, one-mul, mul-pos, mul-le-mul, mul-le-mul-left, mul-le-mul-right, add-mul, mul-sub}
 use native.Mathlib.Omega.{arith}
 use native.Mathlib.Decide.{decLe}
 use mathlib.Core.Path.{_≡_, refl, sym, ap, ap₂, _∙_, subst}
@@ -10,13 +10,13 @@ use mathlib.Core.Bool.{Bool, true, false, _&&_, true≢false}
 use lib.Dec.{T, leb, ltb, eqb, eqb→eq, leb→le, ltb→lt, lit<}
 use lib.IntN.{ℤ, pos, negsuc}
 use lib.Pow.{pow-add, pow-pos}
-use borrow.Author.Tests.{ltb-true, le-ltb}
-use lib.Ieee.{Float, nan, inf, fin, binary64, up, down, round, neg, sum, add, sub, mul, lt, fits}
+use borrow.Author.Tests.{ltb-true, le-ltb, ne-eqb}
+use lib.Ieee.{Float, nan, inf, fin, binary64, up, down, round, neg, sum, add, sub, mul, div, lt, fits}
 use lib.Ieee.Fits.{up-pos, down-pos, and-l, and-r}
 use lib.Ieee.Exact.{HasValue, round-exact}
 use lib.Ieee.Order.{round-mono}
 use lib.Ieee.Positive.{positive, above, above-of-le, positive-of-value, first-pos}
-use Rattle.blur.proofs.Small.{Small, Big, small-round}
+use Rattle.blur.proofs.Small.{Small, Big}
 
 -- ---- 2 ^ e has at most 1074 binary places in a double
 fits-down : (s : Bool) (m : ℕ) (e : ℤ) → T (fits binary64 (fin s m e)) → down e ≤ 2 ^ 1074
@@ -86,7 +86,13 @@ multiple k u t e h =
     le-trans (le-of-eq (sym (one-mul u))) (le-trans (mul-le-mul-right u T₀) (le-of-eq (sym e)))
 
 -- ---- what is not rounded to zero
-of-above : (B : ℕ) (z : Float) → T (above z) → Small B z → T (positive z)
+
+-- above zero, perhaps infinite, and a value of the format
+pub record AboveZero (x : Float) : Type 0 where
+  pub above : T (above x)
+  pub holds : T (fits binary64 x)
+
+pub of-above : (B : ℕ) (z : Float) → T (above z) → Small B z → T (positive z)
 of-above B nan a h = a
 of-above B (inf s) a h = h
 of-above B (fin true m e) a h = a
@@ -95,70 +101,98 @@ of-above B (fin false m e) a h = a
 smallest : HasValue (round binary64 false 1 (2 ^ 1074)) false 1 (2 ^ 1074)
 smallest = round-exact binary64 false 1 (2 ^ 1074) 1 0 (pow-pos 1074) (lit< tt) (lit< tt) refl
 
-pub positive-round : (k c B : ℕ) → 0 < c → c ≤ k * 2 ^ 1074 → k ≤ B * c → B ≤ 2 ^ 53 → T (positive (round binary64 false k c))
-positive-round k c B C h b w =
+above-round : (k c : ℕ) → 0 < c → c ≤ k * 2 ^ 1074 → T (above (round binary64 false k c))
+above-round k c C h =
     let lo = round binary64 false 1 (2 ^ 1074) in
-    of-above B (round binary64 false k c)
-    (above-of-le lo (round binary64 false k c) (positive-of-value lo 1 (2 ^ 1074) smallest (pow-pos 0))
-    (round-mono binary64 1 (2 ^ 1074) k c (pow-pos 1074) C (le-trans (le-of-eq (one-mul c)) h)))
-    (small-round binary64 false k c B C b w)
+    above-of-le lo (round binary64 false k c) (positive-of-value lo 1 (2 ^ 1074) smallest (pow-pos 0))
+    (round-mono binary64 1 (2 ^ 1074) k c (pow-pos 1074) C (le-trans (le-of-eq (one-mul c)) h))
 
 -- ---- sum and difference of M / 2 ^ -e and N / 2 ^ -d, over the common denominator
-module _ (M N : ℕ) (e d : ℤ) (A B : ℕ) (w : A + B ≤ 2 ^ 53) (h : M ≤ A * down e) (g : N ≤ B * down d) (p : down e ≤ 2 ^ 1074) (q : down d ≤ 2 ^ 1074) where
+module _ (M N : ℕ) (e d : ℤ) (p : down e ≤ 2 ^ 1074) (q : down d ≤ 2 ^ 1074) where
   parts : Common M N (down e) (down d) (2 ^ 1074)
   parts = common M N e d (2 ^ 1074) p q
 
-  within : M * down d + N * down e ≤ (A + B) * (down e * down d)
-  within =
-      let x : M * down d ≤ A * (down e * down d) = le-trans (mul-le-mul-right (down d) h) (le-of-eq (mul-assoc A (down e) (down d))) in
-      let y : N * down e ≤ B * (down e * down d) = le-trans (mul-le-mul-right (down e) g) (le-of-eq (mul-assoc B (down d) (down e) ∙ ap (B *_) (mul-comm (down d) (down e)))) in
-      omega (arith, add-mul A B (down e * down d))
-
   -- a multiple of the common u
-  positive-part : (k t : ℕ) → k ≡ t * parts .u → k ≤ M * down d + N * down e → 0 < k → T (positive (round binary64 false k (down e * down d)))
-  positive-part k t m l z =
-      positive-round k (down e * down d) (A + B) (mul-pos (down-pos e) (down-pos d)) (le-trans (parts .room) (mul-le-mul-right (2 ^ 1074) (multiple k (parts .u) t m z))) (le-trans l within) w
+  above-part : (k t : ℕ) → k ≡ t * parts .u → 0 < k → T (above (round binary64 false k (down e * down d)))
+  above-part k t m z =
+      above-round k (down e * down d) (mul-pos (down-pos e) (down-pos d)) (le-trans (parts .room) (mul-le-mul-right (2 ^ 1074) (multiple k (parts .u) t m z)))
 
-  positive-difference : N * down e < M * down d → T (positive (round binary64 false (M * down d - N * down e) (down e * down d)))
-  positive-difference l =
-      positive-part (M * down d - N * down e) (parts .r - parts .s) (ap₂ _-_ (parts .first) (parts .second) ∙ sub-mul (parts .r) (parts .s) (parts .u)) (omega arith) (omega arith)
+  above-difference : N * down e < M * down d → T (above (round binary64 false (M * down d - N * down e) (down e * down d)))
+  above-difference l =
+      above-part (M * down d - N * down e) (parts .r - parts .s) (ap₂ _-_ (parts .first) (parts .second) ∙ sub-mul (parts .r) (parts .s) (parts .u)) (omega arith)
 
-  positive-reverse : M * down d < N * down e → T (positive (round binary64 false (N * down e - M * down d) (down e * down d)))
-  positive-reverse l =
-      positive-part (N * down e - M * down d) (parts .s - parts .r) (ap₂ _-_ (parts .second) (parts .first) ∙ sub-mul (parts .s) (parts .r) (parts .u)) (omega arith) (omega arith)
+  above-reverse : M * down d < N * down e → T (above (round binary64 false (N * down e - M * down d) (down e * down d)))
+  above-reverse l =
+      above-part (N * down e - M * down d) (parts .s - parts .r) (ap₂ _-_ (parts .second) (parts .first) ∙ sub-mul (parts .s) (parts .r) (parts .u)) (omega arith)
 
-  positive-total : 0 < N * down e + M * down d → T (positive (round binary64 false (M * down d + N * down e) (down e * down d)))
-  positive-total l =
-      positive-part (M * down d + N * down e) (parts .r + parts .s) (ap₂ _+_ (parts .first) (parts .second) ∙ sym (add-mul (parts .r) (parts .s) (parts .u))) (omega arith) (omega arith)
+  above-total : 0 < N * down e + M * down d → T (above (round binary64 false (M * down d + N * down e) (down e * down d)))
+  above-total l =
+      above-part (M * down d + N * down e) (parts .r + parts .s) (ap₂ _+_ (parts .first) (parts .second) ∙ sym (add-mul (parts .r) (parts .s) (parts .u))) (omega arith)
 
-pub positive-sub : (x y : Float) (A B : ℕ) → A + B ≤ 2 ^ 53 → Small A x → Small B y → T (fits binary64 x) → T (fits binary64 y) → lt y x ≡ true → T (positive (sub binary64 x y))
+pub above-sub : (x y : Float) → T (fits binary64 x) → T (fits binary64 y) → lt y x ≡ true → T (above (sub binary64 x y))
 unfolding sub add neg sum lt
-positive-sub nan y A B w h g p q l = h
-positive-sub (inf s) y A B w h g p q l = absurd h
-positive-sub (fin s m e) nan A B w h g p q l = g
-positive-sub (fin s m e) (inf t) A B w h g p q l = absurd g
-positive-sub (fin true m e) (fin false n d) A B w h g p q l = absurd (true≢false (sym l))
-positive-sub (fin false m e) (fin true n d) A B w h g p q l =
-    positive-total (m * up e) (n * up d) e d A B w h g (fits-down false m e p) (fits-down true n d q) (ltb-true 0 (n * up d * down e + m * up e * down d) l)
-positive-sub (fin false m e) (fin false n d) A B w h g p q l =
+above-sub nan nan p q l = absurd (true≢false (sym l))
+above-sub nan (inf t) p q l = absurd (true≢false (sym l))
+above-sub nan (fin t n d) p q l = absurd (true≢false (sym l))
+above-sub (inf s) nan p q l = absurd (true≢false (sym l))
+above-sub (inf true) (inf true) p q l = absurd (true≢false (sym l))
+above-sub (inf true) (inf false) p q l = absurd (true≢false (sym l))
+above-sub (inf false) (inf true) p q l = tt
+above-sub (inf false) (inf false) p q l = absurd (true≢false (sym l))
+above-sub (inf true) (fin t n d) p q l = absurd (true≢false (sym l))
+above-sub (inf false) (fin t n d) p q l = tt
+above-sub (fin s m e) nan p q l = absurd (true≢false (sym l))
+above-sub (fin s m e) (inf true) p q l = tt
+above-sub (fin s m e) (inf false) p q l = absurd (true≢false (sym l))
+above-sub (fin true m e) (fin false n d) p q l = absurd (true≢false (sym l))
+above-sub (fin false m e) (fin true n d) p q l =
+    above-total (m * up e) (n * up d) e d (fits-down false m e p) (fits-down true n d q) (ltb-true 0 (n * up d * down e + m * up e * down d) l)
+above-sub (fin false m e) (fin false n d) p q l =
     let k : n * up d * down e < m * up e * down d = ltb-true (n * up d * down e) (m * up e * down d) l in
-    rw (le-ltb (m * up e * down d) (n * up d * down e) (omega arith)) (positive-difference (m * up e) (n * up d) e d A B w h g (fits-down false m e p) (fits-down false n d q) k)
-positive-sub (fin true m e) (fin true n d) A B w h g p q l =
-    rw l (positive-reverse (m * up e) (n * up d) e d A B w h g (fits-down true m e p) (fits-down true n d q) (ltb-true (m * up e * down d) (n * up d * down e) l))
+    rw (le-ltb (m * up e * down d) (n * up d * down e) (omega arith)) (above-difference (m * up e) (n * up d) e d (fits-down false m e p) (fits-down false n d q) k)
+above-sub (fin true m e) (fin true n d) p q l =
+    rw l (above-reverse (m * up e) (n * up d) e d (fits-down true m e p) (fits-down true n d q) (ltb-true (m * up e * down d) (n * up d * down e) l))
+
+some-not-zero : (n : ℕ) → T (ltb 0 n) → eqb n 0 ≡ false
+some-not-zero n p = let h = ltb→lt 0 n p in ne-eqb n 0 (λ (z : n ≡ 0). omega arith)
+
+-- b ≤ B and c ≤ C give b * c ≤ a * B * C for an a above zero
+grown : (a b c B C : ℕ) → 0 < a → b ≤ B → c ≤ C → b * c ≤ a * B * C
+grown a b c B C some h k =
+    le-trans (mul-le-mul h k) (mul-le-mul-right C (le-trans (le-of-eq (sym (one-mul B))) (mul-le-mul-right B some)))
 
 -- ---- a product by what is at least 1
-pub positive-mul : (x y : Float) (A B : ℕ) → A * B ≤ 2 ^ 53 → T (positive x) → T (fits binary64 x) → Small A x → T (positive y) → Big y → Small B y → T (positive (mul binary64 x y))
+pub above-mul : (x y : Float) → AboveZero x → T (positive y) → Big y → T (above (mul binary64 x y))
 unfolding mul
-positive-mul nan y A B w p f h q b g = p
-positive-mul (inf s) y A B w p f h q b g = absurd p
-positive-mul (fin true m e) y A B w p f h q b g = absurd p
-positive-mul (fin false m e) nan A B w p f h q b g = q
-positive-mul (fin false m e) (inf t) A B w p f h q b g = absurd q
-positive-mul (fin false m e) (fin true n d) A B w p f h q b g = absurd q
-positive-mul (fin false m e) (fin false n d) A B w p f h q b g =
-    let one : 1 ≤ m * up e = mul-pos (ltb→lt 0 m p) (up-pos e) in
-    positive-round (m * up e * (n * up d)) (down e * down d) (A * B) (mul-pos (down-pos e) (down-pos d))
-    (le-trans (mul-le-mul (fits-down false m e f) b)
-    (le-trans (le-of-eq (sym (one-mul (2 ^ 1074 * (n * up d)))))
-    (le-trans (mul-le-mul-right (2 ^ 1074 * (n * up d)) one) (le-of-eq (ap (m * up e *_) (mul-comm (2 ^ 1074) (n * up d)) ∙ sym (mul-assoc (m * up e) (n * up d) (2 ^ 1074)))))))
-    (le-trans (mul-le-mul h g) (le-of-eq (mul-mul-mul-comm A (down e) B (down d)))) w
+above-mul nan y p q b = absurd (p .above)
+above-mul (inf s) nan p q b = absurd q
+above-mul (inf s) (inf t) p q b = absurd q
+above-mul (inf s) (fin true n d) p q b = absurd q
+above-mul (inf true) (fin false n d) p q b = absurd (p .above)
+above-mul (inf false) (fin false n d) p q b = rw (some-not-zero n q) tt
+above-mul (fin true m e) y p q b = absurd (p .above)
+above-mul (fin false m e) nan p q b = absurd q
+above-mul (fin false m e) (inf t) p q b = absurd q
+above-mul (fin false m e) (fin true n d) p q b = absurd q
+above-mul (fin false m e) (fin false n d) p q b =
+    above-round (m * up e * (n * up d)) (down e * down d) (mul-pos (down-pos e) (down-pos d))
+    (le-trans (le-of-eq (mul-comm (down e) (down d)))
+    (grown (m * up e) (down d) (down e) (n * up d) (2 ^ 1074) (mul-pos (ltb→lt 0 m (p .above)) (up-pos e)) b (fits-down false m e (p .holds))))
+
+-- ---- a quotient by what is at most 1
+pub above-div : (x y : Float) → AboveZero x → T (positive y) → Small 1 y → T (above (div binary64 x y))
+unfolding div
+above-div nan y p q b = absurd (p .above)
+above-div (inf s) nan p q b = absurd q
+above-div (inf s) (inf t) p q b = absurd q
+above-div (inf s) (fin true n d) p q b = absurd q
+above-div (inf true) (fin false n d) p q b = absurd (p .above)
+above-div (inf false) (fin false n d) p q b = tt
+above-div (fin true m e) y p q b = absurd (p .above)
+above-div (fin false m e) nan p q b = absurd q
+above-div (fin false m e) (inf t) p q b = absurd q
+above-div (fin false m e) (fin true n d) p q b = absurd q
+above-div (fin false m e) (fin false n d) p q b =
+    rw (some-not-zero n q)
+    (above-round (m * up e * down d) (n * up d * down e) (mul-pos (mul-pos (ltb→lt 0 n q) (up-pos d)) (down-pos e))
+    (grown (m * up e) (n * up d) (down e) (down d) (2 ^ 1074) (mul-pos (ltb→lt 0 m (p .above)) (up-pos e)) (le-trans b (le-of-eq (one-mul (down d)))) (fits-down false m e (p .holds))))

@@ -9,19 +9,19 @@ use native.Mathlib.Omega.{arith}
 use lib.Dec.{T, leb, eqb, lit<}
 use lib.IntN.{ℤ}
 use lib.ListN.{length, getD, take, length-take}
-use lib.Ieee.{Float, nan, binary64, nanBits, toBits, ofBits, le}
+use lib.Ieee.{Float, nan, binary64, nanBits, toBits, ofBits}
 use lib.Ieee.Bits.{ofBits-toBits, nanBits-is}
 use borrow.Author.Tests.{eqb-false}
 use Rattle.blur.specs.declared.swings.Swing.{Swing}
 use Rattle.blur.specs.declared.select.Pass.{Pass}
 use Rattle.blur.specs.Median.{kept, sort, median, lengthFrom, lengthOf}
 use Rattle.blur.specs.Select.{high, passed, tallied, passAll, tallyAll, zeros, answered, Countable, Countables, Each, Positive, Widths}
-use Rattle.blur.proofs.Each.{each-take, each-at, each-sort, length-sort}
+use Rattle.blur.proofs.Each.{each-take, each-at, median-each}
 use Rattle.blur.proofs.Place.{count-le, at-sorted}
 use Rattle.blur.proofs.Keys.{bits-at}
 use Rattle.blur.proofs.Spans.{positive-number}
 use Rattle.blur.proofs.Radix.{narrowed-at}
-use Rattle.blur.proofs.Passes.{keys, kept-positive, length-keys, length-kept, passAll-is, passAll-count}
+use Rattle.blur.proofs.Passes.{keys, kept-each, length-keys, length-kept, passAll-is, passAll-count}
 use Rattle.blur.proofs.Rounds.{cells, length-cells, State, Known, pos-of}
 
 -- ---- what a pass asks for, record by record
@@ -57,7 +57,7 @@ module _ (l : List Swing) (a : Pass) (s : State l 1 a) (e : Widths l) where
   ws = kept (a .strongest) l
 
   widths : Each (Positive binary64) ws
-  widths = kept-positive (a .strongest) l e
+  widths = kept-each (Positive binary64) (a .strongest) l e
 
   found-key : 0 < length ws → a .prefix ≡ toBits binary64 (median ws)
   found-key h =
@@ -68,7 +68,7 @@ module _ (l : List Swing) (a : Pass) (s : State l 1 a) (e : Widths l) where
       ∙ bits-at binary64 ws (length ws / 2) nan widths
 
   median-positive : 0 < length ws → Positive binary64 (median ws)
-  median-positive h = each-at (Positive binary64) (sort le ws) (length ws / 2) nan (each-sort (Positive binary64) le ws widths) (omega (arith, length-sort le ws))
+  median-positive = median-each (Positive binary64) ws widths
 
   found-median : 0 < length ws → ofBits binary64 (a .prefix) ≡ median ws
   found-median h = ap (ofBits binary64) (found-key h) ∙ ofBits-toBits binary64 (median ws) (median-positive h .holds)

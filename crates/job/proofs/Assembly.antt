@@ -99,7 +99,7 @@ module _ (n : ℕ) (d : RasterDirection4) (l : LineLength) (source : List ℕ) (
       let none =
       accepted-filter (record {
         pictures = a .pictures;
-        settings = settings-settled config result k a (known .1) (a .iterations-least) (le-refl k);
+        settings = settings-settled config result k a (known .1 .taken) (a .iterations-least) (le-refl k);
         scratch-least = a .scratch-least;
       })
       in

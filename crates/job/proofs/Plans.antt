@@ -1,4 +1,5 @@
--- What a plan says: the refusals in their conditions, and that an accepted job (`job-accepted`) with a result has a length that the restoration takes (`plan-length`).
+-- What a plan says: the refusals in their conditions, and that an accepted job (`job-accepted`) with a result has a length that the restoration takes (`plan-length`)
+-- and an estimate that is positive and finite (`plan-estimate`).
 use mathlib.Core.Bool.{Bool, true, false, not, cond, _||_, or-true}
 use mathlib.Core.Logic.{_⊎_, inl, inr}
 use mathlib.Core.Path.{_≡_, refl, sym, ap, _∙_, subst}
@@ -6,9 +7,10 @@ use Prim.Native.Nat.{ℕ, zero, suc, _+_, _*_, _%_, _^_, _≤_, _<_, max}
 use native.Mathlib.Nat.{zero-lt-suc, pos-of-ne-zero}
 use native.Mathlib.Omega.{arith}
 use borrow.Author.Tests.{eq-eqb, ne-eqb, eqb-false, lt-ltb, le-ltb, ltb-false, not-false}
-use lib.Dec.{eqb, ltb, leb}
-use lib.Ieee.{Float, nan, inf, fin, up, down}
+use lib.Dec.{T, eqb, ltb, leb}
+use lib.Ieee.{Float, nan, inf, fin, binary64, up, down}
 use lib.Ieee.Fits.{down-pos}
+use lib.Ieee.Positive.{positive, above}
 use lib.ListN.{length}
 use Rattle.numbers.proofs.Test.{or-false-left, or-false-right, or-false-intro}
 use Rattle.floats.specs.Factor.{within}
@@ -24,6 +26,8 @@ use Rattle.blur.specs.declared.length.LengthAnswer.{LengthAnswer}
 use Rattle.blur.specs.declared.length.LengthAnswer.the-variants as answered
 use Rattle.blur.specs.declared.length.LineLength.{LineLength}
 use Rattle.blur.specs.declared.length.LineLength.the-variants.{Found, Nothing}
+use Rattle.blur.specs.Select.{Positive}
+use Rattle.blur.proofs.Above.{length-above}
 use Rattle.deblur.specs.Refusal.{scratchShort}
 use Rattle.deblur.proofs.Refusals.{order-pictures, order-settings, order-10, order-0, order-zero}
 use Rattle.job.specs.declared.JobResult.{JobResult}
@@ -129,19 +133,38 @@ odd-taken (fin false m e′) L e = go (leb (m * up e′) (2 ^ 53 * down e′)) (
     go true n h o e = let same : n ≡ L = cc in (omega arith, omega arith)
     go false n h o e = let z : _≡_ {A = ℕ} 0 1 = cc in absurd (omega arith)
 
+-- no length is answered for an infinite estimate
+odd-finite : (x : Float) (L : ℕ) → oddLength x ≡ Length L → T (above x) → T (positive x)
+unfolding oddLength
+odd-finite nan L e a = a
+odd-finite (inf true) L e a = a
+odd-finite (inf false) L e a = let z : _≡_ {A = ℕ} 0 1 = cc in absurd (omega arith)
+odd-finite (fin true m e′) L e a = a
+odd-finite (fin false m e′) L e a = a
+
+-- what a result has: its estimate is the length found, and its blur length is that of the estimate
+pub record Measured (width height : ℕ) (l : LineLength) (result : JobResult) : Type 0 where
+  pub found : l ≡ Found (result .estimate)
+  pub rounded : oddLength (result .estimate) ≡ Length (result .«blur_length»)
+  pub taken : LengthTaken width height (result .«blur_length»)
+
 module _ (width height : ℕ) (d : RasterDirection4) where
   plan-odd : (estimate : Float) (o : OddLength) (result : JobResult) → oddLength estimate ≡ o → planOdd width height d estimate o ≡ Done result
-      → LengthTaken width height (result .«blur_length»)
+      → Measured width height (Found estimate) result
   plan-odd estimate (Length L) result o e = go (ltb (2 * max width height + 1) L) refl e
     where
       go : (b : Bool) → ltb (2 * max width height + 1) L ≡ b → cond b (Refused 12) (Done (record { direction = d; «blur_length» = L; estimate = estimate })) ≡ Done result
-          → LengthTaken width height (result .«blur_length»)
+          → Measured width height (Found estimate) result
       go true t e = let z : _≡_ {A = ℕ} 0 1 = cc in absurd (omega arith)
       go false t e =
           let same : record { direction = d; «blur_length» = L; estimate = estimate } ≡ result = cc in
           let taken = odd-taken estimate L o in
-          subst (λ (r : JobResult). LengthTaken width height (r .«blur_length»)) same
-          (record { least = taken .0; odd = taken .1; most = ltb-false (2 * max width height + 1) L t })
+          subst (Measured width height (Found estimate)) same
+          (record {
+            found = refl;
+            rounded = o;
+            taken = record { least = taken .0; odd = taken .1; most = ltb-false (2 * max width height + 1) L t };
+          })
   plan-odd estimate Beyond result o e = let z : _≡_ {A = ℕ} 0 1 = cc in absurd (omega arith)
 
   -- the tests of the code
@@ -157,7 +180,7 @@ module _ (width height : ℕ) (d : RasterDirection4) where
   plan-fits estimate L e (inl a) = rw (e, le-ltb (2 * max width height + 1) L (omega arith))
   plan-fits estimate L e (inr b) = rw (e, le-ltb (2 * max width height + 1) L (omega arith))
 
-  plan-along : (l : LineLength) (result : JobResult) → planLength width height d l ≡ Done result → LengthTaken width height (result .«blur_length»)
+  plan-along : (l : LineLength) (result : JobResult) → planLength width height d l ≡ Done result → Measured width height l result
   plan-along (Found estimate) result e = plan-odd estimate (oddLength estimate) result refl e
   plan-along Nothing result e = let z : _≡_ {A = ℕ} 0 1 = cc in absurd (omega arith)
 
@@ -169,7 +192,7 @@ module _ (width height : ℕ) (d : RasterDirection4) where
       → answer ≡ planOdd width height d estimate (oddLength estimate) → answer ≡ planFrom n width height d (lengthIn m)
   plan-found e f g is = rw (e, f, g) is
 
-  pub plan-from-done : (n : ℕ) (l : LineLength) (result : JobResult) → planFrom n width height d l ≡ Done result → (n ≡ 0) × LengthTaken width height (result .«blur_length»)
+  pub plan-from-done : (n : ℕ) (l : LineLength) (result : JobResult) → planFrom n width height d l ≡ Done result → (n ≡ 0) × Measured width height l result
   plan-from-done zero l result e = (refl, plan-along l result e)
   plan-from-done (suc n) l result e = let z : _≡_ {A = ℕ} 0 1 = cc in absurd (omega arith)
 
@@ -197,7 +220,7 @@ plan-late j {number} none e =
 -- ---- an accepted plan
 
 module _ (j : Job) {result : JobResult} (e : plan j ≡ Done result) where
-  plan-done : (jobRefusal j ≡ 0) × LengthTaken (j .width) (j .height) (result .«blur_length»)
+  plan-done : (jobRefusal j ≡ 0) × Measured (j .width) (j .height) (jobLength j) result
   unfolding plan
   plan-done = plan-from-done (j .width) (j .height) (jobDirection j) (jobRefusal j) (jobLength j) result e
 
@@ -205,4 +228,10 @@ module _ (j : Job) {result : JobResult} (e : plan j ≡ Done result) where
   plan-accepted = job-accepted j (plan-done .0)
 
   pub plan-length : LengthTaken (j .width) (j .height) (result .«blur_length»)
-  plan-length = plan-done .1
+  plan-length = plan-done .1 .taken
+
+  pub plan-estimate : Positive binary64 (result .estimate)
+  plan-estimate =
+      let m = plan-done .1 in
+      let a = length-above (j .source) (j .width) (j .height) (j .stride) (jobDirection j) (j .config .«minimum_transitions») (j .config .«minimum_amplitude») (result .estimate) (m .found) in
+      record { above = odd-finite (result .estimate) (result .«blur_length») (m .rounded) (a .above); holds = a .holds }

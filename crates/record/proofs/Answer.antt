@@ -102,3 +102,11 @@ record-bytes-most r = go (recordFields r)
     go : (z : FieldsAnswer) → length (writeBytes z []) ≤ 32
     go (Legal f) = le-of-eq (encoded-length f)
     go Broken = lit≤ tt
+
+-- all 32 of a record that can be written
+pub record-bytes : (r : Record) → writeNumber (recordFields r) ≡ 0 → length (writeBytes (recordFields r) []) ≡ 32
+record-bytes r = go (recordFields r)
+  where
+    go : (z : FieldsAnswer) → writeNumber z ≡ 0 → length (writeBytes z []) ≡ 32
+    go (Legal f) w = encoded-length f
+    go Broken w = absurd (omega (arith, w))

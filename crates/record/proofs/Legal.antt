@@ -59,7 +59,7 @@ pub record Sound (f : Fields) : Type 0 where
   pub angle : finite (ofBits binary64 (f .angle)) ≡ true
   pub estimate : finite (ofBits binary64 (f .estimate)) ≡ true
 
-both : (a b : Bool) → (a && b) ≡ true → (a ≡ true) × (b ≡ true)
+pub both : (a b : Bool) → (a && b) ≡ true → (a ≡ true) × (b ≡ true)
 both a b h = and-eq-true-iff a b .0 h
 
 module _ (f : Fields) where

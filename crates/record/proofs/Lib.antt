@@ -5,4 +5,5 @@ pub mod Legal
 pub mod Answer
 pub mod Coding
 pub mod RoundTrip
+pub mod Results
 pub mod Examples

@@ -53,7 +53,7 @@ from-index Vertical = refl
 from-index DownLeft = refl
 
 -- a border and its value, as a pair of numbers
-border-from : (b v : ℕ) → borderLegal b v ≡ true → (borderCode (borderFrom b v) ≡ b) × (borderValue (borderFrom b v) ≡ v)
+pub border-from : (b v : ℕ) → borderLegal b v ≡ true → (borderCode (borderFrom b v) ≡ b) × (borderValue (borderFrom b v) ≡ v)
 border-from b v h =
     ⊎-elim (λ e. rw (eqb-true b 2 e) (refl, refl))
     (λ e.
@@ -93,16 +93,16 @@ exact-factor (Q16 p) q x t e = by-test (isFactor p x) yes no
     no : isFactor p x ≡ false → factorOf q ≡ x
     no h = absurd (never-exact q (rw h at e))
 
-filter-from : (k q : ℕ) → FilterSound k q → (filterCode (filterFrom k q) ≡ k) × (filterQ (filterFrom k q) ≡ Q16 q)
+pub filter-from : (k q : ℕ) → FilterSound k q → (filterCode (filterFrom k q) ≡ k) × (filterQ (filterFrom k q) ≡ Q16 q)
 unfolding filterFrom filterQ
 filter-from k q (restoration e h) = rw e (refl, factor-exact 1 q (lit≤ tt) h)
 filter-from k q (unsharp e h) = rw e (refl, factor-exact 8 q (lit≤ tt) h)
 filter-from k q (binomial e z) = rw (e, z) (refl, refl)
 
 -- legal fields are those of their record
-pub fields-record : (f : Fields) → InBytes f → legal f ≡ true → recordFields (recordOf f) ≡ Legal f
+pub fields-record : (f : Fields) → f .angle < 256 ^ 8 → f .estimate < 256 ^ 8 → legal f ≡ true → recordFields (recordOf f) ≡ Legal f
 unfolding recordFields recordOf fieldsOf
-fields-record f b h =
+fields-record f a b h =
     let s = sound f h in
     let k = filter-from (f .filter) (f .q) (s .filter) in
     let d = border-from (f .border) (f .value) (s .border) in
@@ -112,8 +112,8 @@ fields-record f b h =
       index-from (f .direction) (s .direction),
       d .0,
       d .1,
-      bits-back (f .angle) (b .angle) (s .angle),
-      bits-back (f .estimate) (b .estimate) (s .estimate),
+      bits-back (f .angle) a (s .angle),
+      bits-back (f .estimate) b (s .estimate),
     )
     (checked-legal f h)
 
@@ -210,18 +210,24 @@ read-written r old new h w = go (toWrite r old) refl (w .answers) (w .bytes)
     go (Legal f) e a b = rw b (legally f (to-write r old f e))
     go Broken e a b = absurd (omega (arith, a))
 
--- the fields that were read are those of the record
-read-fields : (xs : List ℕ) (r : Record) → Bytes xs → readRecord xs ≡ answer.Record r → (recordFields r ≡ Legal (decoded xs)) × (encoded (decoded xs) ≡ xs)
+-- what reads as a record is 32 bytes of legal fields
+pub read-is : (xs : List ℕ) (r : Record) → readRecord xs ≡ answer.Record r → (length xs ≡ 32) × (legal (decoded xs) ≡ true) × (recordOf (decoded xs) ≡ r)
 unfolding readRecord
-read-fields xs r b e = by-test (eqb (length xs) 32 && legal (decoded xs)) yes (λ t. absurd (never-read r (rw t at e)))
+read-is xs r e = by-test (eqb (length xs) 32 && legal (decoded xs)) yes (λ t. absurd (never-read r (rw t at e)))
   where
-    yes : (eqb (length xs) 32 && legal (decoded xs)) ≡ true → (recordFields r ≡ Legal (decoded xs)) × (encoded (decoded xs) ≡ xs)
+    yes : (eqb (length xs) 32 && legal (decoded xs)) ≡ true → (length xs ≡ 32) × (legal (decoded xs) ≡ true) × (recordOf (decoded xs) ≡ r)
     yes t =
         let p = and-eq-true-iff (eqb (length xs) 32) (legal (decoded xs)) .0 t in
-        let l : length xs ≡ 32 = eqb-true (length xs) 32 (p .0) in
         let same : answer.Record (recordOf (decoded xs)) ≡ answer.Record r = rw t at e in
         let g : recordOf (decoded xs) ≡ r = cc in
-        (rw (← g) (fields-record (decoded xs) (decoded-in-bytes xs l b) (p .1)), encoded-decoded xs l b)
+        (eqb-true (length xs) 32 (p .0), p .1, g)
+
+-- the fields that were read are those of the record
+read-fields : (xs : List ℕ) (r : Record) → Bytes xs → readRecord xs ≡ answer.Record r → (recordFields r ≡ Legal (decoded xs)) × (encoded (decoded xs) ≡ xs)
+read-fields xs r b e =
+    let p = read-is xs r e in
+    let w = decoded-in-bytes xs (p .0) b in
+    (rw (← p .2) (fields-record (decoded xs) (w .angle) (w .estimate) (p .1)), encoded-decoded xs (p .0) b)
 
 -- what reads is written as the same bytes
 pub write-read : (xs : List ℕ) (r : Record) → Bytes xs → readRecord xs ≡ answer.Record r

@@ -1,4 +1,4 @@
--- Document 01, "The 32-byte record": what a record's fields stand for, what reading and writing answer, and which records are jobs.
+-- Document 01, "The 32-byte record": what a record's fields stand for, what reading and writing answer, which records are jobs, and what a result adds.
 use mathlib.Core.Path.{_≡_}
 use mathlib.Core.Bool.{Bool, _&&_, cond}
 use mathlib.Core.List.{List}
@@ -136,7 +136,22 @@ pub record Wrote (r : Record) (old new : List ℕ) (number : ℕ) : Type 0 where
   pub answers : number ≡ writeNumber (toWrite r old)
   pub bytes : new ≡ writeBytes (toWrite r old) old
 
--- ---- a job has direction 0, estimate 0
+-- ---- jobs and results
 
+-- "A job has direction 0, estimate 0"
 unfoldable pub isJob : Record → Bool
 isJob r = eqb (directionIndex (r .direction)) 0 && eqb (toBits binary64 (r .estimate)) 0
+
+-- "A result adds direction, length and estimate used."
+abbrev pub usedIn : Record → RasterDirection4 → ℕ → Float → Record
+usedIn r d L estimate = record {
+  width = r .width;
+  height = r .height;
+  direction = d;
+  border = r .border;
+  filter = r .filter;
+  «blur_length» = L;
+  iterations = r .iterations;
+  angle = r .angle;
+  estimate = estimate;
+}

@@ -1,19 +1,19 @@
 -- The program never prints more than 4,128 bytes: `run` with that much room never refuses.
 use mathlib.Core.Bool.{Bool, true, false, cond}
 use mathlib.Core.List.{List, [], _∷_}
-use Prim.Native.Nat.{ℕ, zero, suc, _+_, _*_, _/_, _%_, _≤_}
+use Prim.Native.Nat.{ℕ, _+_, _*_, _/_, _%_, _≤_}
 use native.Mathlib.Omega.{arith}
 use borrow.Author.Tests.{ltb-true, ltb-false}
 use lib.Dec.{ltb, lit≤}
 use lib.ListN.{length, length-append}
 use Rattle.numbers.proofs.Test.{by-test}
-use Rattle.record.specs.Record.{recordFields, writeNumber, writeBytes, readRecord, isJob}
+use Rattle.record.specs.Record.{recordFields, writeBytes, readRecord, isJob}
 use Rattle.record.specs.declared.Record.{Record}
 use Rattle.record.specs.declared.ReadAnswer.{ReadAnswer}
 use Rattle.record.specs.declared.ReadAnswer.the-variants as read
 use Rattle.record.proofs.Answer.{record-bytes-most}
 use Rattle.smear_run.specs.Stage.{Outcome, done, refused, stage}
-use Rattle.smear_run.specs.Output.{refusedText, pixelsOf, orRefused, printed, jobOutput, outputOf, output}
+use Rattle.smear_run.specs.Output.{refusedText, pixelsOf, printed, jobOutput, outputOf, output}
 use Rattle.smear_run.proofs.Fronts.{length-tabulate}
 use Rattle.smear_run.proofs.Printed.{no-job, too-large, of-stage}
 
@@ -25,17 +25,13 @@ text-most n = go (ltb n 10)
     go true = lit≤ tt
     go false = lit≤ tt
 
-or-most : (n : ℕ) (xs : List ℕ) → length xs ≤ 4128 → length (orRefused n xs) ≤ 4128
-or-most zero xs h = h
-or-most (suc n) xs h = text-most (suc n)
-
 printed-most : (r : Record) (o : Outcome) → r .width * r .height ≤ 4096 → length (printed r o) ≤ 4128
 printed-most r (refused number) h = text-most number
 printed-most r (done result px) h =
     let l = length-append (pixelsOf (r .width) (r .height) px) (writeBytes (recordFields result) []) in
     let p = length-tabulate (λ i. px (i % r .width) (i / r .width)) (r .width * r .height) in
     let b = record-bytes-most result in
-    or-most (writeNumber (recordFields result)) _ (omega arith)
+    omega arith
 
 job-most : (r : Record) (picture : List ℕ) → length (jobOutput r picture) ≤ 4128
 job-most r picture =

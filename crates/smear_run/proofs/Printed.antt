@@ -10,7 +10,7 @@ use lib.ListN.{length, take, drop}
 use lib.Seq.{take-length, take-at, length-take-le}
 use Rattle.numbers.proofs.List.{length-part}
 use Rattle.numbers.proofs.Test.{by-test}
-use Rattle.record.specs.Record.{readRecord, isJob, Wrote}
+use Rattle.record.specs.Record.{recordFields, writeNumber, readRecord, isJob, Wrote}
 use Rattle.record.specs.declared.Record.{Record}
 use Rattle.record.specs.declared.ReadAnswer.the-variants as read
 use Rattle.record.proofs.Answer.{wrote-number, wrote-bytes}
@@ -21,7 +21,7 @@ use Rattle.smear_run.specs.declared.filters.FilterAnswer.{FilterAnswer}
 use Rattle.smear_run.specs.declared.RunAnswer.{RunAnswer}
 use Rattle.smear_run.specs.declared.RunAnswer.the-variants.{Written, Refused}
 use Rattle.smear_run.proofs.Fronts.{front-joined}
-use Rattle.smear_run.proofs.Stages.{filtered-printed, refused-text}
+use Rattle.smear_run.proofs.Stages.{filtered-printed}
 
 module _ (r : Record) (picture : List ℕ) where
   pub no-job : isJob r ≡ false → jobOutput r picture ≡ refusedText 13
@@ -52,15 +52,12 @@ module _ (r : Record) (n e : ℕ) (made ys : List ℕ) (number : ℕ) (behind : 
   room : length (take (e - n) (drop n made)) ≡ 32
   room = length-part n (e - n) made (omega arith) ∙ omega arith
 
-  pub then-refused : (number ≡ 0 → ⊥) → thenRecord (take n made) r ≡ refusedText number
-  then-refused some = let a = wrote-number r (take (e - n) (drop n made)) ys room number w in rw (← a) (refused-text number _ some)
-
-  pub then-written : number ≡ 0 → length ys ≡ length (take (e - n) (drop n made)) → Front (thenRecord (take n made) r) (take n made ++ (ys ++ drop (e - n) (drop n made))) e
-  then-written none same =
+  pub then-written : writeNumber (recordFields r) ≡ 0 → length ys ≡ length (take (e - n) (drop n made)) → Front (thenRecord (take n made) r) (take n made ++ (ys ++ drop (e - n) (drop n made))) e
+  then-written legal same =
+      let none = wrote-number r (take (e - n) (drop n made)) ys room number w ∙ legal in
       let w′ : Wrote r (take (e - n) (drop n made)) ys 0 = rw none at w in
-      let a = wrote-number r (take (e - n) (drop n made)) ys room 0 w′ in
       let b = wrote-bytes r (take (e - n) (drop n made)) ys room w′ in
-      rw (← a, ← b) (front-joined n e made ys (omega arith) fits (same ∙ length-part n (e - n) made (omega arith)))
+      rw (← b) (front-joined n e made ys (omega arith) fits (same ∙ length-part n (e - n) made (omega arith)))
 
 module _ (job picture : List ℕ) where
   pub of-record : {r : Record} → readRecord job ≡ read.Record r → output job picture ≡ jobOutput r picture

@@ -28,7 +28,7 @@ use Rattle.job.proofs.Plans.{plan-accepted, plan-length}
 use Rattle.record.specs.declared.Record.{Record}
 use Rattle.record.specs.declared.RecordFilter.the-variants.{Restoration, Unsharp, Binomial}
 use Rattle.smear_run.specs.Stage.{Outcome, done, refused, unless, withDirection, restorationConfig, unsharpConfig, wholeJobConfig, lineStage, planned, jobStage, wholeJob, binomialStage, stage}
-use Rattle.smear_run.specs.Output.{refusedText, orRefused, thenRecord, printed}
+use Rattle.smear_run.specs.Output.{thenRecord, printed}
 use Rattle.smear_run.specs.Parts.{lineAnswer, jobAnswer, binomialAnswer, Filtered, Measured, finished}
 use Rattle.smear_run.specs.declared.filters.FilterAnswer.{FilterAnswer}
 use Rattle.smear_run.specs.declared.filters.FilterAnswer.the-variants.{Done, Refused}
@@ -124,10 +124,6 @@ measured-short m e =
     let h = s .height-most in
     let b = l .most in
     omega arith
-
-pub refused-text : (n : ℕ) (xs : List ℕ) → (n ≡ 0 → ⊥) → orRefused n xs ≡ refusedText n
-refused-text zero xs some = absurd (some refl)
-refused-text (suc n) xs some = refl
 
 -- width × height of two 16-bit numbers
 pub area-fits : {w h : ℕ} → w < 65536 → h < 65536 → Fits w64 (w * h)

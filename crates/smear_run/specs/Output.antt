@@ -5,7 +5,7 @@ use mathlib.Core.List.{List, [], _∷_, _++_}
 use Prim.Native.Nat.{ℕ, zero, suc, _+_, _*_, _/_, _%_}
 use lib.Dec.{ltb}
 use lib.ListN.{length, drop}
-use Rattle.record.specs.Record.{recordFields, writeNumber, writeBytes, readRecord, isJob}
+use Rattle.record.specs.Record.{recordFields, writeBytes, readRecord, isJob}
 use Rattle.record.specs.declared.Record.{Record}
 use Rattle.record.specs.declared.ReadAnswer.{ReadAnswer}
 use Rattle.record.specs.declared.ReadAnswer.the-variants as read
@@ -35,14 +35,9 @@ tabulate f (suc n) = f 0 ∷ tabulate (λ i. f (suc i)) n
 abbrev pub pixelsOf : ℕ → ℕ → (ℕ → ℕ → ℕ) → List ℕ
 pixelsOf width height px = tabulate (λ i. px (i % width) (i / width)) (width * height)
 
--- 0 is no refusal
-abbrev pub orRefused : ℕ → List ℕ → List ℕ
-orRefused zero xs = xs
-orRefused (suc number) xs = refusedText (suc number)
-
--- the result's 32 bytes behind the pixels, unless its record is one that 13 refuses to write
+-- the result's 32 bytes behind the pixels: `write` refuses no job's result (proofs/Results: `result-written`)
 abbrev pub thenRecord : List ℕ → Record → List ℕ
-thenRecord pixels result = orRefused (writeNumber (recordFields result)) (pixels ++ writeBytes (recordFields result) [])
+thenRecord pixels result = pixels ++ writeBytes (recordFields result) []
 
 abbrev pub printed : Record → Outcome → List ℕ
 printed r (done result px) = thenRecord (pixelsOf (r .width) (r .height) px) result

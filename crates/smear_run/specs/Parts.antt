@@ -12,7 +12,9 @@ use Rattle.job.specs.Job.{jobOf, plan, Destination}
 use Rattle.job.specs.declared.JobAnswer.{JobAnswer}
 use Rattle.job.specs.declared.JobAnswer.the-variants as job
 use Rattle.job.specs.declared.JobConfig.{JobConfig}
+use Rattle.record.specs.Record.{recordFields, writeNumber, readRecord}
 use Rattle.record.specs.declared.Record.{Record}
+use Rattle.record.specs.declared.ReadAnswer.the-variants as read
 use Rattle.smear_run.specs.Stage.{Outcome, done, refused, withDirection, jobResult}
 use Rattle.smear_run.specs.Output.{refusedText, thenRecord}
 use Rattle.smear_run.specs.declared.filters.FilterAnswer.{FilterAnswer}
@@ -48,6 +50,16 @@ pub record Measured (picture : List ℕ) (width height : ℕ) (config : JobConfi
   pub destination : Destination picture width height width width config answer old new
 
 -- ---- the end
+
+-- a record that some bytes read as
+pub record Legible (r : Record) : Type 0 where
+  pub bytes : List ℕ
+  pub reads : readRecord bytes ≡ read.Record r
+
+-- a result that can be written
+abbrev pub Writable : FilterAnswer → Type 0
+Writable (Done result) = writeNumber (recordFields result) ≡ 0
+Writable (Refused number) = Unit {0}
 
 abbrev pub finished : FilterAnswer → List ℕ → List ℕ
 finished (Done result) pixels = thenRecord pixels result

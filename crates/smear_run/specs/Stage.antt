@@ -22,6 +22,7 @@ use Rattle.job.specs.declared.JobAnswer.{JobAnswer}
 use Rattle.job.specs.declared.JobAnswer.the-variants as answer
 use Rattle.job.specs.declared.JobConfig.{JobConfig}
 use Rattle.job.specs.declared.JobResult.{JobResult}
+use Rattle.record.specs.Record.{usedIn}
 use Rattle.record.specs.declared.Record.{Record}
 use Rattle.record.specs.declared.RecordFilter.{RecordFilter}
 use Rattle.record.specs.declared.RecordFilter.the-variants.{Restoration, Unsharp, Binomial}
@@ -36,20 +37,7 @@ abbrev pub unless : ℕ → Record → (ℕ → ℕ → ℕ) → Outcome
 unless zero result px = done result px
 unless (suc number) result px = refused (suc number)
 
--- "A result adds direction, length and estimate used."
-abbrev pub usedIn : Record → RasterDirection4 → ℕ → Float → Record
-usedIn r d L estimate = record {
-  width = r .width;
-  height = r .height;
-  direction = d;
-  border = r .border;
-  filter = r .filter;
-  «blur_length» = L;
-  iterations = r .iterations;
-  angle = r .angle;
-  estimate = estimate;
-}
-
+-- a line filter adds its direction; the whole job, all that it measured
 abbrev pub withDirection : Record → RasterDirection4 → Record
 withDirection r d = usedIn r d (r .«blur_length») (r .estimate)
 

@@ -3,7 +3,7 @@ ghost use mathlib.Core.Path.{_≡_};
 ghost use Prim.Native.Nat.{_+_, _≤_};
 ghost use lib.ListN.{length, take};
 ghost use Rattle.smear_run.specs.Output.{jobOutput, output};
-ghost use Rattle.smear_run.specs.Parts.{finished, Front};
+ghost use Rattle.smear_run.specs.Parts.{Legible, Writable, finished, Front};
 use crate::filters::FilterAnswer;
 use crate::filters::filter;
 use crate::text::put_refusal;
@@ -11,18 +11,15 @@ use crate::text::put_too_large;
 use record::ReadAnswer;
 use record::Record;
 
-// The result's record behind n pixels, or the refusal.
+// The result's record behind n pixels, or the refusal. The result of a job is one that `write` takes.
 fn finish(answer: FilterAnswer, n: usize, made: &mut [u8]) -> usize
-    requires { ⌜ n + 32 ≤ length (now made) ⌝ }
+    requires { ⌜ (n + 32 ≤ length (now made)) × Writable answer ⌝ }
     ensures { λ r. ⌜ Front (finished answer (take n (now (made .entry)))) (now (made .exit)) r ⌝ }
 {
     match answer {
         FilterAnswer::Done(result) => {
             let end = n + 32;
-            let number = record::write(result, &mut made[n..end]);
-            if number != 0 {
-                return put_refusal(number, made);
-            }
+            record::write(result, &mut made[n..end]);
             end
         }
         FilterAnswer::Refused(number) => put_refusal(number, made),
@@ -31,7 +28,7 @@ fn finish(answer: FilterAnswer, n: usize, made: &mut [u8]) -> usize
 
 // What is printed for a record that was read.
 fn compose_record(record: Record, picture: &[u8], made: &mut [u8]) -> usize
-    requires { ⌜ length (now made) ≡ 4128 ⌝ }
+    requires { ⌜ (length (now made) ≡ 4128) × Legible «record» ⌝ }
     ensures { λ r. ⌜ Front (jobOutput «record» (now (picture .entry))) (now (made .exit)) r ⌝ }
 {
     if !record::is_job(record) {

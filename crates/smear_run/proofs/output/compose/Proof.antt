@@ -12,7 +12,9 @@ enum-known-record : tie.Need-enum-known-record
 enum-known-record c = search needs
 
 compose-record-requires : tie.Need-compose-record-requires
-compose-record-requires c κs = search needs
+compose-record-requires c κs =
+    let read = c .before .before .before .before in
+    (read .before .before .before .before .pre, record { bytes = _; reads = sym (read .read .ensures) ∙ c .before .before .«record» .given .1 })
 
 enum-known-number : tie.Need-enum-known-number
 enum-known-number c = search needs

@@ -2,6 +2,7 @@
 use borrow.Author.Needs.{needs}
 use borrow.Author.Tests.{not-true, not-false}
 use Rattle.smear_run.proofs.Stages.{area-fits}
+use Rattle.smear_run.proofs.Results.{answer-writable}
 use Rattle.smear_run.proofs.Printed.{no-job, too-large, of-stage, stage-printed}
 use mathlib.Core.Path.{sym, _∙_}
 use native.Mathlib.Omega.{arith}
@@ -49,7 +50,12 @@ filter-requires : tie.Need-filter-requires
 filter-requires c κs = length-take-le _ _ (omega (arith, c .before .if2 .left))
 
 finish-requires : tie.Need-finish-requires
-finish-requires c κs = search needs
+finish-requires c κs =
+    let filtered = c .before .before .before in
+    let job = filtered .before .before .before .before .before .before in
+    let start = job .before .before .before in
+    let is-job = sym (job .is-job .ensures) ∙ not-false _ (c .before .before .before .before .before .before .before .before .if1 .left) in
+    (search needs, answer-writable (start .pre .1 .bytes) (start .args .«record») (start .pre .1 .reads) is-job (start .args .picture .now) _ _ _ (filtered .filter .ensures))
 
 same-length-3 : tie.Need-same-length-3
 same-length-3 c = search needs

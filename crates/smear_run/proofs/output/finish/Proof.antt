@@ -1,8 +1,9 @@
 -- `smear_run::output::finish` meets its contract.
 use borrow.Author.Needs.{needs}
-use mathlib.Core.Path.{refl}
+use mathlib.Core.Path.{refl, subst}
 use Prim.Native.Nat.{_+_}
-use Rattle.smear_run.proofs.Printed.{then-refused, then-written}
+use Rattle.smear_run.specs.Parts.{Writable}
+use Rattle.smear_run.proofs.Printed.{then-written}
 use Rattle.smear_run.proofs.output.finish.Statement.{statement}
 use Rattle.smear_run.proofs.output.finish.Tie as tie
 
@@ -24,6 +25,9 @@ part-write-end c = search needs
 write-requires : tie.Need-write-requires
 write-requires c κs = search needs
 
+enum-known-answer-2 : tie.Need-enum-known-answer-2
+enum-known-answer-2 c = search needs
+
 put-refusal-requires : tie.Need-put-refusal-requires
 put-refusal-requires c κs = search needs
 
@@ -31,25 +35,19 @@ same-length : tie.Need-same-length
 same-length c = search needs
 
 returns : tie.Need-returns
-returns c = let w = c .before .before .before .before .before .before .before in let a = w .before .before .before .before .before .before .args in rw (w .before .before .before .answer .given .1, then-refused _ (a .n) (a .n + 32) (a .made .now) _ _ refl (w .before .before .before .before .before .before .pre) (w .write .ensures) (c .before .before .before .before .if1 .taken)) (c .before .before .put-refusal .ensures)
-
-enum-known-answer-2 : tie.Need-enum-known-answer-2
-enum-known-answer-2 c = search needs
-
-put-refusal-requires-2 : tie.Need-put-refusal-requires-2
-put-refusal-requires-2 c κs = search needs
+returns c =
+    let w = c .before .before in
+    let at-start = w .before .before .before .before .before .before in
+    let a = at-start .args in
+    let is = w .before .before .before .answer .given .1 in
+    let legal = subst Writable is (at-start .pre .1) in
+    rw is (then-written _ (a .n) (a .n + 32) (a .made .now) _ _ refl (at-start .pre .0) (w .write .ensures) legal (w .write .kept .1 .0))
 
 same-length-2 : tie.Need-same-length-2
 same-length-2 c = search needs
 
 returns-2 : tie.Need-returns-2
-returns-2 c = let w = c .before .before .before in let a = w .before .before .before .before .before .before .args in rw (w .before .before .before .answer .given .1) (then-written _ (a .n) (a .n + 32) (a .made .now) _ _ refl (w .before .before .before .before .before .before .pre) (w .write .ensures) (c .if1 .left) (w .write .kept .1 .0))
-
-same-length-3 : tie.Need-same-length-3
-same-length-3 c = search needs
-
-returns-3 : tie.Need-returns-3
-returns-3 c = rw (c .before .before .before .before .before .answer2 .given .1) (c .before .before .put-refusal2 .ensures)
+returns-2 c = rw (c .before .before .before .before .before .answer2 .given .1) (c .before .before .put-refusal .ensures)
 
 pub finish-spec : {M : Type 1} → statement M
 finish-spec =
@@ -61,12 +59,9 @@ finish-spec =
     part-write-start
     part-write-end
     write-requires
+    enum-known-answer-2
     put-refusal-requires
     same-length
     returns
-    enum-known-answer-2
-    put-refusal-requires-2
     same-length-2
-    returns-2
-    same-length-3
-    returns-3)
+    returns-2)

@@ -4,22 +4,18 @@ use native.Mathlib.Nat.{pos-of-ne-zero, zero-lt-suc}
 use native.Mathlib.Omega.{arith}
 use mathlib.Core.Bool.{Bool, true, false, not, _||_, or-true}
 use mathlib.Core.Logic.{_⊎_, inl, inr, ⊎-elim}
-use mathlib.Core.Path.{_≡_, sym, subst}
-use lib.Dec.{T, eqb, ltb}
+use mathlib.Core.Path.{_≡_}
+use lib.Dec.{eqb, ltb}
 use lib.Ieee.Scale.{finite}
 use borrow.Author.Tests.{eq-eqb, ne-eqb, lt-ltb, le-ltb, eqb-false, ltb-false, not-false}
 use Rattle.numbers.proofs.Nat.{even-or-odd}
 use Rattle.numbers.proofs.Test.{or-false-intro, or-false-left, or-false-right}
-use Rattle.floats.proofs.Factor.{rounded-le}
 use Rattle.image.specs.Refusal.{layoutRefusal, pairRefusal}
 use Rattle.image.proofs.Chain.{cond-zero, first-zero, first-own}
 use Rattle.image.proofs.Refusal.{laid, accepted}
 use Rattle.image.proofs.Pair.{laid-pair, accepted-pair}
 use Rattle.deblur.specs.declared.LineSettings.{LineSettings}
-use Rattle.deblur.specs.declared.VanCittertConfig.{VanCittertConfig}
-use Rattle.deblur.specs.declared.DirectionalUnsharpConfig.{DirectionalUnsharpConfig}
-use Rattle.deblur.specs.Settings.{filterQ16, restorationOf, unsharpOf}
-use Rattle.deblur.specs.Refusal.{factorTaken, settingsRefusal, scratchShort, inOrder, filterRefusal, estimateRefusal, Settled, FilterAccepted, EstimateAccepted, Moderate}
+use Rattle.deblur.specs.Refusal.{factorTaken, settingsRefusal, scratchShort, inOrder, filterRefusal, estimateRefusal, Settled, FilterAccepted, EstimateAccepted}
 
 -- ---- the settings: each number in its condition
 
@@ -84,19 +80,6 @@ module _ {width height : ℕ} {s : LineSettings} where
   pub accepted-settings : Settled width height s → settingsRefusal width height s ≡ 0
   accepted-settings t =
       settings-0 width height s (t .length-least) (t .length-odd) (t .length-most) (t .angle-finite) (t .iterations-least) (t .factor-taken) (t .iterations-most)
-
--- ---- q and the iterations
-
-taken : (t : Bool) → t ≡ true → T t
-taken t e = subst T (sym e) tt
-
-pub restoration-moderate : {width height : ℕ} (config : VanCittertConfig) → Settled width height (restorationOf config)
-    → Moderate (filterQ16 (restorationOf config .filter)) (config .iterations)
-restoration-moderate config t = inl (rounded-le 1 (config .relaxation) (taken _ (t .factor-taken)), t .iterations-most)
-
-pub unsharp-moderate : {width height : ℕ} (config : DirectionalUnsharpConfig) → Settled width height (unsharpOf config)
-    → Moderate (filterQ16 (unsharpOf config .filter)) (unsharpOf config .iterations)
-unsharp-moderate config t = inr (rounded-le 8 (config .gain) (taken _ (t .factor-taken)), omega arith)
 
 -- ---- the order of the numbers
 

@@ -1,7 +1,6 @@
 -- Document 01, "Refusals, first match wins", for the line filters: 1 to 6 of the pictures, 7 to 9 of the settings, 10 of what is lent. 0 is no refusal.
 use Prim.Native.Nat.{ℕ, _+_, _*_, _%_, _≤_, max}
 use mathlib.Core.Bool.{Bool, true, not, cond, _||_}
-use mathlib.Core.Logic.{_⊎_}
 use mathlib.Core.Path.{_≡_}
 use lib.Dec.{eqb, ltb}
 use lib.Ieee.Scale.{finite}
@@ -64,7 +63,3 @@ pub record EstimateAccepted (len width height stride dstLen : ℕ) (s : LineSett
   pub settings : Settled width height s
   pub dst-least : width * height ≤ dstLen
   pub scratch-least : 3 * (width * height) ≤ scratchLen
-
--- q and iterations whose estimates fit an i32: those of an accepted restoration, and those of an accepted line unsharp
-abbrev pub Moderate : ℕ → ℕ → Type 0
-Moderate q iterations = ((q ≤ 65536) × (iterations ≤ 22)) ⊎ ((q ≤ 524288) × (iterations ≤ 1))

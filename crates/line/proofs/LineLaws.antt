@@ -1,15 +1,14 @@
 -- What the definitions of a line say, one law for each, so that no other file unfolds them: `sample-is`, `window-is`, `mean-is`, `stepped-is`,
--- `after-zero`, `after-next`. Then the sample at a place of the line, the window's slide, and the step with q = 65,536.
+-- `after-zero`, `after-next`. Then the sample at a place of the line, and the window's slide.
 use mathlib.Core.Path.{_≡_, refl, sym, ap, _∙_}
 use Prim.Native.Nat.{ℕ, suc, _+_, _-_, _/_, _≤_, _<_}
-use native.Mathlib.Nat.{add-comm, zero-lt-suc}
+use native.Mathlib.Nat.{add-comm}
 use native.Mathlib.Numerals.{add-one}
 use native.Mathlib.Omega.{arith}
 use borrow.Author.Tests.{le-ltb}
-use lib.IntN.{ℤ, pos, subℕ, _+ℤ_, _-ℤ_, _*ℤ_, *ℤ-comm}
+use lib.IntN.{ℤ, pos, subℕ, _+ℤ_, _-ℤ_, _*ℤ_}
 use lib.Signed.{shrZ, quotZ}
 use Rattle.numbers.specs.Sum.{total}
-use Rattle.numbers.proofs.Int.Divide.{quot-exact}
 use Rattle.numbers.proofs.Sum.{total-same, total-shift, total-slide}
 use Rattle.raster.specs.Border.{Lawful}
 use Rattle.raster.specs.declared.border.BorderSample.{BorderSample}
@@ -64,20 +63,9 @@ module _ (m : ℤ → BorderSample) (b : ℕ → ℤ) (q L : ℕ) where
   unfolding after
   after-zero p = refl
 
-  pub after-one : (p : ℕ) → after m b q L 1 p ≡ stepped m b q L b p
-  unfolding after
-  after-one p = refl
-
   pub after-suc : (k p : ℕ) → after m b q L (suc k) p ≡ stepped m b q L (after m b q L k) p
   unfolding after
   after-suc k p = refl
 
   pub after-next : (k p : ℕ) → after m b q L (k + 1) p ≡ stepped m b q L (after m b q L k) p
   after-next k p = ap (λ (j : ℕ). after m b q L j p) (add-one k) ∙ after-suc k p
-
--- relaxation 1: the quotient is the residual itself
-pub stepped-whole : (m : ℤ → BorderSample) (b : ℕ → ℤ) (L : ℕ) (y : ℕ → ℤ) (p : ℕ) → stepped m b 65536 L y p ≡ y p +ℤ (b p -ℤ mean m y L p)
-stepped-whole m b L y p =
-    stepped-is m b 65536 L y p
-    ∙ ap (λ (z : ℤ). y p +ℤ quotZ z (pos 65536)) (*ℤ-comm (b p -ℤ mean m y L p) (pos 65536))
-    ∙ ap (y p +ℤ_) (quot-exact (zero-lt-suc 65535) (b p -ℤ mean m y L p))

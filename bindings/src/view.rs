@@ -46,6 +46,31 @@ fn validate_layout(len: usize, width: usize, height: usize, stride: usize) -> Re
     }
 }
 
+/// What both views say of their layout.
+macro_rules! layout {
+    () => {
+        /// Width in pixels.
+        pub const fn width(&self) -> usize {
+            self.width
+        }
+
+        /// Height in pixels.
+        pub const fn height(&self) -> usize {
+            self.height
+        }
+
+        /// Bytes from one row to the next.
+        pub const fn stride(&self) -> usize {
+            self.stride
+        }
+
+        /// Width and height.
+        pub const fn size(&self) -> Size {
+            Size { width: self.width, height: self.height }
+        }
+    };
+}
+
 impl<'a> Gray8View<'a> {
     /// Borrow `data` as a picture. `stride` is the number of bytes from one row to the next: `width` where there is no padding.
     pub fn new(data: &'a [u8], width: usize, height: usize, stride: usize) -> Result<Self, LumaError> {
@@ -69,25 +94,7 @@ impl<'a> Gray8View<'a> {
         &self.data[y * self.stride..][..self.width]
     }
 
-    /// Width in pixels.
-    pub const fn width(&self) -> usize {
-        self.width
-    }
-
-    /// Height in pixels.
-    pub const fn height(&self) -> usize {
-        self.height
-    }
-
-    /// Bytes from one row to the next.
-    pub const fn stride(&self) -> usize {
-        self.stride
-    }
-
-    /// Width and height.
-    pub const fn size(&self) -> Size {
-        Size { width: self.width, height: self.height }
-    }
+    layout!();
 
     /// The borrowed bytes, padding and surplus included.
     pub(crate) fn bytes(&self) -> &'a [u8] {
@@ -128,25 +135,7 @@ impl<'a> Gray8ViewMut<'a> {
         Gray8View { data: self.data, width: self.width, height: self.height, stride: self.stride }
     }
 
-    /// Width in pixels.
-    pub const fn width(&self) -> usize {
-        self.width
-    }
-
-    /// Height in pixels.
-    pub const fn height(&self) -> usize {
-        self.height
-    }
-
-    /// Bytes from one row to the next.
-    pub const fn stride(&self) -> usize {
-        self.stride
-    }
-
-    /// Width and height.
-    pub const fn size(&self) -> Size {
-        Size { width: self.width, height: self.height }
-    }
+    layout!();
 
     /// The borrowed bytes, padding and surplus included.
     pub(crate) fn bytes(&mut self) -> &mut [u8] {

@@ -50,7 +50,8 @@ pub fn compare(random: &mut Random, count: usize, tally: &mut Tally) {
     }
     // subnormals
     around(f64::from_bits(1000), 1000).for_each(|angle| tally.check(Angle(angle)));
-    for _ in 0..10 * count {
+    // an angle costs little: forty for each input of another call
+    for _ in 0..20 * count {
         tally.check(Angle(f64::from_bits(random.bits())));
         tally.check(Angle((random.unit() - 0.5) * 20.0));
     }

@@ -3,7 +3,7 @@
 mod chosen;
 
 use crate::angle::number;
-use crate::direction::sums;
+use crate::direction;
 use crate::picture::Picture;
 use qr_lab_image::{Gray8View, Gray8ViewMut, LumaError};
 use qr_lab_imgproc::blur::{self, LineLengthConfig, RasterDirection4};
@@ -117,10 +117,7 @@ impl Case {
 
     /// A direction that the Rust decides by its own rounding.
     fn is_tie(&self) -> bool {
-        self.call == Call::Direction && self.answer().number == 0 && {
-            let (a, c, e) = sums(&self.source);
-            2 * c.abs() == (a - e).abs() && a != e
-        }
+        self.call == Call::Direction && self.answer().number == 0 && direction::is_tie(&self.source)
     }
 
     fn write(&self, out: &mut Vec<u8>) {

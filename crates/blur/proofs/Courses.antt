@@ -1,12 +1,13 @@
 -- What is scanned: the refusals of `length_refusal`, and the course that follows from the caller's numbers. It lies in the bytes, and its swings are those of
--- document 01's definition: `in-course`, `course-swings`, `course-few`, `course-widths`.
+-- document 01's definition: `in-course`, `course-length`, `course-few`, `course-widths`.
 use mathlib.Core.Path.{_≡_, refl, _∙_, ap}
 use mathlib.Core.Bool.{Bool, true, false, cond, not, _&&_, _||_, and-false, true≢false}
 use mathlib.Core.List.{List, []}
 use Prim.Native.Nat.{ℕ, _+_, _-_, _*_, _≤_, _<_, _^_}
-use native.Mathlib.Nat.{mul-le-mul-left, mul-le-mul}
+use native.Mathlib.Nat.{le-trans, mul-le-mul-left, mul-le-mul}
 use native.Mathlib.Omega.{arith}
 use lib.Dec.{eqb, ltb}
+use lib.IntN.{pos}
 use lib.ListN.{length}
 use lib.Ieee.{Float, binary64}
 use borrow.Author.Tests.{eq-eqb, ne-eqb, lt-ltb, le-ltb, ltb-false}
@@ -21,8 +22,8 @@ use Rattle.raster.proofs.Area.{area}
 use Rattle.blur.specs.declared.swings.Swing.{Swing}
 use Rattle.blur.specs.declared.scan.Course.{Course}
 use Rattle.blur.specs.declared.length.LineLength.the-variants.{Nothing}
-use Rattle.blur.specs.Line.{linesOf, firstLines, pixelOf, InCourse}
-use Rattle.blur.specs.Swings.{swings, swingsFrom}
+use Rattle.blur.specs.Line.{linesOf, linesOn, firstLines, pixelOf, InCourse}
+use Rattle.blur.specs.Swings.{swings, swingsFrom, swingsAt}
 use Rattle.blur.specs.Scan.{rest, begun, Bytes}
 use Rattle.blur.specs.Median.{lengthOf}
 use Rattle.blur.specs.Select.{Positive, Widths}
@@ -31,6 +32,7 @@ use Rattle.blur.proofs.Count.{picture-count}
 use Rattle.blur.proofs.Small.{Small}
 use Rattle.blur.proofs.Positive.{AboveZero, of-above}
 use Rattle.blur.proofs.Each.{each-both}
+use Rattle.blur.proofs.Thinned.{thinned-few, thinned-each, thinned-length}
 use Rattle.blur.proofs.Above.{line-short, picture-above}
 use Rattle.blur.proofs.Width.{picture-small}
 
@@ -110,9 +112,9 @@ module _ (bytes : List ℕ) (lent w h stride : ℕ) (d : RasterDirection4) (m a 
   course = courseOf (length bytes) lent w h stride d m a
 
   abbrev all : List Swing
-  all = rest bytes course (begun .next)
+  all = swingsAt (course .«minimum_amplitude») (course .pixel) (linesOn bytes course) (begun .next .place)
 
-  pub course-swings : all ≡ cond (tooLittle w h m a) [] (swings a (pixelOf d) (linesOf bytes d w h stride))
+  course-swings : all ≡ cond (tooLittle w h m a) [] (swings a (pixelOf d) (linesOf bytes d w h stride))
   unfolding swingsFrom
   course-swings =
       ap (λ (t : Bool). swingsFrom a (pixelOf d) (firstLines (cond (t && not (tooLittle w h m a)) (lineCount d w h) 0) bytes d w h stride) 0 0 (cond (t && not (tooLittle w h m a)) (lineCount d w h) 0 - 0))
@@ -124,17 +126,17 @@ module _ (bytes : List ℕ) (lent w h stride : ℕ) (d : RasterDirection4) (m a 
       go false = refl
 
   -- "Nothing if a threshold is 0 or a side is below 3": no swing gives Nothing
-  pub course-length : lengthOf all m ≡ lengthAlong bytes w h stride d m a
-  course-length = ap (λ (l : List Swing). lengthOf l m) course-swings ∙ go (tooLittle w h m a) (swings a (pixelOf d) (linesOf bytes d w h stride))
+  pub course-length : lengthOf (rest bytes course (begun .next)) m ≡ lengthAlong bytes w h stride d m a
+  course-length = thinned-length all m ∙ ap (λ (l : List Swing). lengthOf l m) course-swings ∙ go (tooLittle w h m a) (swings a (pixelOf d) (linesOf bytes d w h stride))
     where
       go : (t : Bool) (l : List Swing) → lengthOf (cond t [] l) m ≡ cond t Nothing (lengthOf l m)
       go true l = refl
       go false l = refl
 
   -- no more than there are pixels, and thus than there are records
-  pub course-few : length all ≤ w * h
+  pub course-few : length (rest bytes course (begun .next)) ≤ w * h
   unfolding length
-  course-few = rw course-swings (go (tooLittle w h m a))
+  course-few = le-trans (thinned-few (pos 0) all) (rw course-swings (go (tooLittle w h m a)))
     where
       l : Laid (length bytes) w h stride
       l = length-laid (length bytes) w h stride lent e
@@ -147,12 +149,13 @@ module _ (bytes : List ℕ) (lent w h stride : ℕ) (d : RasterDirection4) (m a 
           omega (arith, n, count-zero (lineLength d w h), area d w h (l .width-pos) (l .height-pos), ap (count (lineLength d w h)) whole)
 
   -- widths as the selection takes them
-  pub course-widths : Bytes bytes → Widths all
+  pub course-widths : Bytes bytes → Widths (rest bytes course (begun .next))
   course-widths are =
-      each-both (λ (s : Swing). AboveZero (s .width)) (λ (s : Swing). Small 7156 (s .width)) (λ (s : Swing). Positive binary64 (s .width))
+      thinned-each (λ (s : Swing). Positive binary64 (s .width)) (pos 0) all
+      (each-both (λ (s : Swing). AboveZero (s .width)) (λ (s : Swing). Small 7156 (s .width)) (λ (s : Swing). Positive binary64 (s .width))
       (λ s e small. record { above = of-above 7156 (s .width) (e .above) small; holds = e .holds }) all
       (picture-above a (course .count) bytes d w h stride 0 0 (course .count - 0))
-      (picture-small a d (firstLines (course .count) bytes d w h stride) (λ k j. are _) (λ k. omega (arith, line-short d w h k, l .width-most, l .height-most)) 0 0 (course .count - 0))
+      (picture-small a d (firstLines (course .count) bytes d w h stride) (λ k j. are _) (λ k. omega (arith, line-short d w h k, l .width-most, l .height-most)) 0 0 (course .count - 0)))
     where
       l : Laid (length bytes) w h stride
       l = length-laid (length bytes) w h stride lent e

@@ -26,5 +26,6 @@ pub mod Spans
 pub mod Steps
 pub mod Strongest
 pub mod SwingExamples
+pub mod Thinned
 pub mod Walk
 pub mod Width

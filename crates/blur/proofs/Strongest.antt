@@ -35,7 +35,7 @@ larger-neg a b = go (leb b a) (leb→le b a) (nleb→lt b a)
         most : a < b → a ≡ min a b
         most h = omega arith
 
-larger-comm : (a b : ℤ) → larger a b ≡ larger b a
+pub larger-comm : (a b : ℤ) → larger a b ≡ larger b a
 larger-comm (pos a) (pos b) = larger-pos a b ∙ ap pos (swap a b) ∙ sym (larger-pos b a)
   where
     swap : (m n : ℕ) → max m n ≡ max n m
@@ -47,7 +47,7 @@ larger-comm (negsuc a) (negsuc b) = larger-neg a b ∙ ap negsuc (swap a b) ∙ 
     swap : (m n : ℕ) → min m n ≡ min n m
     swap m n = omega arith
 
-larger-assoc : (a b c : ℤ) → larger a (larger b c) ≡ larger (larger a b) c
+pub larger-assoc : (a b c : ℤ) → larger a (larger b c) ≡ larger (larger a b) c
 larger-assoc (pos a) (pos b) (pos c) = rw (larger-pos b c, larger-pos a b, larger-pos a (max b c), larger-pos (max a b) c) (ap pos (regroup a b c))
   where
     regroup : (m n k : ℕ) → max m (max n k) ≡ max (max m n) k

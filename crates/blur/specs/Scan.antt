@@ -1,11 +1,13 @@
 -- What the answers of the scan's functions say, in terms of the runs and swings that are left. Only contracts inside the crate cite these.
-use Prim.Native.Nat.{ℕ, _+_, _-_, _≤_, _<_}
+use Prim.Native.Nat.{ℕ, _+_, _-_, _/_, _≤_, _<_, max}
 use mathlib.Core.Path.{_≡_}
 use mathlib.Core.Bool.{Bool, true, false, cond}
 use mathlib.Core.List.{List, [], _∷_}
-use lib.IntN.{pos}
+use lib.IntN.{ℤ, pos}
+use lib.Signed.{leZ}
 use lib.ListN.{length, getD, take}
 use lib.Ieee.{Float, binary64, ofBits, lt}
+use Rattle.numbers.specs.Scalar.{clampByte}
 use Rattle.blur.specs.declared.swings.Swing.{Swing}
 use Rattle.blur.specs.declared.scan.RunEnd.{RunEnd}
 use Rattle.blur.specs.declared.scan.OnLine.{OnLine}
@@ -62,9 +64,22 @@ said least pixel lines r = cond (r .on) (r .swing ∷ swingsAt least pixel lines
 
 -- ---- the scan
 
--- the swings that are left
+-- half of the strongest swing so far, rounded up
+unfoldable pub halfOf : ℤ → ℕ
+halfOf top = clampByte top - clampByte top / 2
+
+-- the least swing that is worth a record: the caller's, or half of the strongest so far
+abbrev pub raisedTo : ℕ → ℤ → ℕ
+raisedTo least top = max least (halfOf top)
+
+-- without the swings below half of the strongest before them: none of these stays
+unfoldable pub thinned : ℤ → List Swing → List Swing
+thinned top [] = []
+thinned top (s ∷ l) = cond (leZ (pos (halfOf top)) (s .swing)) (s ∷ thinned (larger top (s .swing)) l) (thinned top l)
+
+-- the swings that are left to be stored
 abbrev pub rest : List ℕ → Course → Scan → List Swing
-rest bytes c s = swingsAt (c .«minimum_amplitude») (c .pixel) (linesOn bytes c) (s .place)
+rest bytes c s = thinned (s .strongest) (swingsAt (c .«minimum_amplitude») (c .pixel) (linesOn bytes c) (s .place))
 
 -- ---- what the widths lie between
 

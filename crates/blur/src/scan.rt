@@ -5,7 +5,7 @@ ghost use lib.ListN.{length};
 ghost use Rattle.blur.specs.Line.{sample, linesOn, InCourse};
 ghost use Rattle.blur.specs.Runs.{stepOf, turnsAt};
 ghost use Rattle.blur.specs.Swings.{scaledBy, lineSwings, swingsAt};
-ghost use Rattle.blur.specs.Scan.{slopeOf, LevelTo, SlopeTo, RunTo, saidOnLine, said, widenedBy, Scans, begun};
+ghost use Rattle.blur.specs.Scan.{slopeOf, LevelTo, SlopeTo, RunTo, saidOnLine, said, raisedTo, widenedBy, Scans, begun};
 use crate::rises::Rise;
 use crate::rises::rise_of;
 use crate::rises::sample_at;
@@ -13,6 +13,7 @@ use crate::select::narrower;
 use crate::select::stronger;
 use crate::select::wider;
 use crate::swings::Swing;
+use numbers::clamp_u8;
 use raster::direction::RasterDirection4;
 use raster::lines::line_at;
 
@@ -60,7 +61,7 @@ pub struct Span {
     pub greatest: f64,
 }
 
-// How far a scan is: where it goes on, how many swings there were, the strongest of them, and what their widths lie between.
+// How far a scan is: where it goes on, how many swings were stored, the strongest of them, and what their widths lie between.
 pub struct Scan {
     pub place: Place,
     pub strongest: i32,
@@ -228,12 +229,23 @@ fn widened(span: Span, width: f64) -> Span
     }
 }
 
+// The least swing that is worth a record: one below half of the strongest so far would not stay.
+fn raised(least: u8, strongest: i32) -> u8
+    ensures { λ r. ⌜ r ≡ raisedTo least strongest ⌝ }
+{
+    let top = clamp_u8(strongest);
+    let half = top - top / 2;
+    if half < least { least } else { half }
+}
+
 // The scan's next answer.
 pub(crate) fn next(data: &[u8], course: Course, s: Scan) -> Scanned
     requires { ⌜ InCourse course (length (now «data»)) × (s .count < 2 ^ 63) ⌝ }
     ensures { λ r. ⌜ Scans (now («data» .entry)) course s r ⌝ }
 {
     let place = s.place;
+    let mut course = course;
+    course.minimum_amplitude = raised(course.minimum_amplitude, s.strongest);
     let spotted = next_swing(data, course, place);
     let swing = spotted.swing;
     if !spotted.on {

@@ -1,19 +1,23 @@
 -- Laws of `lineSwings` at sample a of a line of n samples: a run with its rise or without, and none left. Laws of `swingsFrom`: a line with a swing, a line without, and none left.
 use Prim.Native.Nat.{ℕ, _+_, _-_, _≤_, _<_}
 use native.Mathlib.Numerals.{add-one}
-use mathlib.Core.Path.{_≡_}
-use mathlib.Core.List.{[], _∷_, _++_}
-use borrow.Author.Tests.{lt-ltb, le-ltb}
+use mathlib.Core.Path.{_≡_, refl, sym, _∙_, ap}
+use mathlib.Core.Bool.{Bool, true, false, cond}
+use mathlib.Core.List.{List, [], _∷_, _++_}
+use lib.Dec.{ltb}
+use borrow.Author.Tests.{ltb-true, lt-ltb, le-ltb}
 use lib.Ieee.{Float}
 use Rattle.blur.specs.declared.swings.Swing.{Swing}
 use Rattle.blur.specs.declared.rises.Rise.the-variants.{Found, Nothing}
-use Rattle.blur.specs.declared.scan.RunEnd.the-variants.{At, Level}
+use Rattle.blur.specs.declared.scan.NextRun.{NextRun}
+use Rattle.blur.specs.declared.scan.NextRun.the-variants.{Of}
 use Rattle.blur.specs.Line.{Lines}
-use Rattle.blur.specs.Rise.{riseOf}
-use Rattle.blur.specs.Runs.{runsUpTo, runsAfter}
+use Rattle.blur.specs.Rise.{swingOf, riseOf}
+use Rattle.blur.specs.Runs.{Run, runsUpTo, runsAfter}
 use Rattle.blur.specs.Swings.{scaledBy, withRise, swingsOf, lineSwings, swingsFrom}
-use Rattle.blur.specs.Scan.{RunTo}
+use Rattle.blur.specs.Scan.{steep, runsBy, RunTo}
 use Rattle.blur.proofs.Line.{left-more, left-none}
+use Rattle.blur.proofs.Rise.{rise-small}
 use Rattle.blur.proofs.Runs.{runs-none}
 
 module _ (least : ℕ) (pixel : Float) (x : ℕ → ℕ) (n a : ℕ) where
@@ -29,19 +33,38 @@ module _ (least : ℕ) (pixel : Float) (x : ℕ → ℕ) (n a : ℕ) where
   unfolding swingsOf
   swings-end h k = rw (line-swings h, runs-none x (n - 1) a k)
 
-  pub swings-level : 3 ≤ n → RunTo x (n - 1) a Level → lineSwings least pixel x n a ≡ []
-  unfolding swingsOf
-  swings-level h r = rw (line-swings h, r .runs)
+-- runs that change by less than the least swing have none
+pub swings-steep : (least : ℕ) (pixel : Float) (x : ℕ → ℕ) (rs : List Run) → swingsOf least pixel x rs ≡ swingsOf least pixel x (steep least x rs)
+unfolding swingsOf steep
+swings-steep least pixel x [] = refl
+swings-steep least pixel x (r ∷ rs) = go (ltb (swingOf (x (r .first)) (x (r .last))) least) refl (swings-steep least pixel x rs)
+  where
+    go : (t : Bool) → ltb (swingOf (x (r .first)) (x (r .last))) least ≡ t → swingsOf least pixel x rs ≡ swingsOf least pixel x (steep least x rs)
+        → withRise pixel (riseOf least x (r .first) (r .last)) (swingsOf least pixel x rs) ≡ swingsOf least pixel x (cond t (steep least x rs) (r ∷ steep least x rs))
+    go true e h = rw (rise-small least x (r .first) (r .last) (ltb-true _ _ e)) h
+    go false e h = ap (withRise pixel (riseOf least x (r .first) (r .last))) h
 
-module _ (least : ℕ) (pixel : Float) (x : ℕ → ℕ) (n a b : ℕ) (h : 3 ≤ n) (r : RunTo x (n - 1) a (At b)) where
-  pub swings-run : lineSwings least pixel x n a ≡ withRise pixel (riseOf least x a b) (lineSwings least pixel x n b)
-  unfolding swingsOf
-  swings-run = rw (line-swings least pixel x n a h, line-swings least pixel x n b h, r .runs)
+module _ (least : ℕ) (pixel : Float) (x : ℕ → ℕ) (n a : ℕ) (o : NextRun) (h : 3 ≤ n) (r : RunTo x least (n - 1) a o) where
+  swings-by : lineSwings least pixel x n a ≡ swingsOf least pixel x (runsBy x (n - 1) o)
+  swings-by =
+      line-swings least pixel x n a h
+      ∙ swings-steep least pixel x (runsUpTo x (n - 1) a)
+      ∙ ap (swingsOf least pixel x) (r .runs)
+      ∙ sym (swings-steep least pixel x (runsBy x (n - 1) o))
 
-  pub swings-found : (s : Swing) → riseOf least x a b ≡ Found s → lineSwings least pixel x n a ≡ scaledBy pixel s ∷ lineSwings least pixel x n b
+pub swings-level : (least : ℕ) (pixel : Float) (x : ℕ → ℕ) (n a : ℕ) → 3 ≤ n → RunTo x least (n - 1) a NextRun.End → lineSwings least pixel x n a ≡ []
+unfolding swingsOf
+swings-level least pixel x n a h r = swings-by least pixel x n a NextRun.End h r
+
+module _ (least : ℕ) (pixel : Float) (x : ℕ → ℕ) (n a first b : ℕ) (h : 3 ≤ n) (r : RunTo x least (n - 1) a (Of first b)) where
+  swings-run : lineSwings least pixel x n a ≡ withRise pixel (riseOf least x first b) (lineSwings least pixel x n b)
+  unfolding swingsOf
+  swings-run = swings-by least pixel x n a (Of first b) h r ∙ ap (withRise pixel (riseOf least x first b)) (sym (line-swings least pixel x n b h))
+
+  pub swings-found : (s : Swing) → riseOf least x first b ≡ Found s → lineSwings least pixel x n a ≡ scaledBy pixel s ∷ lineSwings least pixel x n b
   swings-found s e = rw (swings-run, e)
 
-  pub swings-nothing : riseOf least x a b ≡ Nothing → lineSwings least pixel x n a ≡ lineSwings least pixel x n b
+  pub swings-nothing : riseOf least x first b ≡ Nothing → lineSwings least pixel x n a ≡ lineSwings least pixel x n b
   swings-nothing e = rw (swings-run, e)
 
 module _ (least : ℕ) (pixel : Float) (lines : Lines) (k a : ℕ) where

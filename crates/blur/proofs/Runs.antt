@@ -1,15 +1,16 @@
 -- Laws of slopes: when a run turns, and its slope where it does not. Laws of `runsFrom` at sample i of a line up to sample `last`: where a run starts,
--- where it turns, where it goes on, and at the line's end; and that every run lies in the line.
+-- where it turns, where it goes on, and at the line's end; that small runs may be passed; and that every run lies in the line.
 use Prim.Native.Nat.{ℕ, zero, suc, _+_, _-_, _≤_, _<_}
 use native.Mathlib.Numerals.{add-one}
-use mathlib.Core.Path.{_≡_, refl, ap, _∙_}
+use mathlib.Core.Path.{_≡_, refl, sym, ap, _∙_}
 use native.Mathlib.Omega.{arith}
-use mathlib.Core.Bool.{Bool, true, false, cond, true≢false}
+use mathlib.Core.Bool.{Bool, true, false, cond, not, _&&_, true≢false}
 use mathlib.Core.List.{List, [], _∷_}
 use lib.Dec.{ltb}
 use borrow.Author.Tests.{ltb-true, ltb-false, lt-ltb, le-ltb}
 use Rattle.blur.specs.Runs.{Run, Slope, Level, Rising, Falling, stepOf, turnsAt, onwardFrom, lastRun, runsFrom, runsUpTo}
-use Rattle.blur.specs.Scan.{slopeOf}
+use Rattle.blur.specs.Rise.{swingOf}
+use Rattle.blur.specs.Scan.{slopeOf, steep}
 use Rattle.blur.proofs.Line.{left-more, left-none}
 
 -- ---- slopes
@@ -103,6 +104,66 @@ module _ (x : ℕ → ℕ) (last : ℕ) (rising : Bool) (i a : ℕ) where
       ended : (r : Bool) → lastRun a (slopeOf r) i ≡ record { first = a; last = i } ∷ []
       ended true = refl
       ended false = refl
+
+-- ---- where it turns, the next run goes the other way
+turned-slope : (rising : Bool) (step : Slope) → turnsAt (slopeOf rising) step ≡ true → step ≡ slopeOf (not rising)
+turned-slope true Level e = absurd (true≢false (sym e))
+turned-slope true Rising e = absurd (true≢false (sym e))
+turned-slope true Falling e = refl
+turned-slope false Level e = absurd (true≢false (sym e))
+turned-slope false Rising e = refl
+turned-slope false Falling e = absurd (true≢false (sym e))
+
+-- ---- the runs that change enough: one that does not is passed
+module _ (x : ℕ → ℕ) (least last a : ℕ) (rising : Bool) (i : ℕ) (h : i < last) where
+  steep-turn : turnsAt (slopeOf rising) (stepOf (x i) (x (i + 1))) ≡ true → swingOf (x a) (x i) < least
+      → steep least x (runsFrom x a (slopeOf rising) i (last - i)) ≡ steep least x (runsFrom x i (slopeOf (not rising)) (i + 1) (last - (i + 1)))
+  unfolding steep
+  steep-turn e k =
+      ap (steep least x) (runs-turn x last a (slopeOf rising) i h e)
+      ∙ ap (λ (t : Bool). cond t (steep least x (runsUpTo x last i)) (record { first = a; last = i } ∷ steep least x (runsUpTo x last i))) (lt-ltb (swingOf (x a) (x i)) least k)
+      ∙ ap (steep least x) (runs-start x last i h ∙ ap (λ (s : Slope). runsFrom x i s (i + 1) (last - (i + 1))) (turned-slope rising (stepOf (x i) (x (i + 1))) e))
+
+-- the state of the loop of `steep_run`: at sample i, v, the run from sample a on rises or falls, and the runs that are left and change enough are those that were
+-- left at sample `from`
+module _ (x : ℕ → ℕ) (least last first from : ℕ) (rising : Bool) where
+  pub record Left (a value : ℕ) (rises : Bool) (v i : ℕ) : Type 0 where
+    pub past : from ≤ i
+    pub within : i ≤ last
+    pub here : v ≡ x i
+    pub there : value ≡ x a
+    pub began : a ≤ i
+    pub runs : steep least x (runsFrom x first (slopeOf rising) from (last - from)) ≡ steep least x (runsFrom x a (slopeOf rises) i (last - i))
+
+  -- at the next sample, w, it goes on, or, if it turned and is small, the one that starts here does
+  pub left-on : (a value : ℕ) (rises : Bool) (v i : ℕ) → Left a value rises v i → i < last → (w : ℕ) → w ≡ x (i + 1) → (t : Bool) → t ≡ turnsAt (slopeOf rises) (stepOf v w)
+      → (not (ltb (swingOf value v) least) && t) ≡ false → Left (cond t i a) (cond t v value) (cond t (not rises) rises) w (i + 1)
+  left-on a value rises v i l h w next t e f = go t (rw (l .here, next) at (sym e)) (rw (l .there, l .here) at f)
+    where
+      small : (t : Bool) → ltb (swingOf (x a) (x i)) least ≡ t → (not t && true) ≡ false → swingOf (x a) (x i) < least
+      small true e f = ltb-true (swingOf (x a) (x i)) least e
+      small false e f = absurd (true≢false f)
+
+      go : (t : Bool) → turnsAt (slopeOf rises) (stepOf (x i) (x (i + 1))) ≡ t → (not (ltb (swingOf (x a) (x i)) least) && t) ≡ false
+          → Left (cond t i a) (cond t v value) (cond t (not rises) rises) w (i + 1)
+      go true e f =
+          record {
+            past = omega (arith, l .past);
+            within = omega arith;
+            here = next;
+            there = l .here;
+            began = omega arith;
+            runs = l .runs ∙ steep-turn x least last a rises i h e (small (ltb (swingOf (x a) (x i)) least) refl f);
+          }
+      go false e f =
+          record {
+            past = omega (arith, l .past);
+            within = omega arith;
+            here = next;
+            there = l .there;
+            began = omega (arith, l .began);
+            runs = l .runs ∙ ap (steep least x) (slope-on x last rises i a h e);
+          }
 
 -- ---- the runs lie in the line
 abbrev pub RunsWithin : ℕ → List Run → Type 0

@@ -3,13 +3,15 @@ use Prim.Native.Nat.{ℕ, _+_, _-_, _/_, _≤_, _<_, max}
 use mathlib.Core.Path.{_≡_}
 use mathlib.Core.Bool.{Bool, true, false, cond}
 use mathlib.Core.List.{List, [], _∷_}
+use lib.Dec.{ltb}
 use lib.IntN.{ℤ, pos}
 use lib.Signed.{leZ}
 use lib.ListN.{length, getD, take}
 use lib.Ieee.{Float, binary64, ofBits, lt}
 use Rattle.numbers.specs.Scalar.{clampByte}
 use Rattle.blur.specs.declared.swings.Swing.{Swing}
-use Rattle.blur.specs.declared.scan.RunEnd.{RunEnd}
+use Rattle.blur.specs.declared.scan.NextRun.{NextRun}
+use Rattle.blur.specs.declared.scan.NextRun.the-variants.{Of}
 use Rattle.blur.specs.declared.scan.OnLine.{OnLine}
 use Rattle.blur.specs.declared.scan.OnLine.the-variants.{Next, End}
 use Rattle.blur.specs.declared.scan.Course.{Course}
@@ -19,6 +21,7 @@ use Rattle.blur.specs.declared.scan.Scan.{Scan}
 use Rattle.blur.specs.declared.scan.Scanned.{Scanned}
 use Rattle.blur.specs.Line.{Lines, linesOn}
 use Rattle.blur.specs.Runs.{Run, Slope, Level, Rising, Falling, runsFrom, runsUpTo}
+use Rattle.blur.specs.Rise.{swingOf}
 use Rattle.blur.specs.Swings.{lineSwings, swingsAt}
 use Rattle.blur.specs.Median.{larger, strongest}
 
@@ -35,24 +38,30 @@ abbrev pub slopeOf : Bool → Slope
 slopeOf true = Rising
 slopeOf false = Falling
 
--- from sample i on, where it rises or falls, it goes on to sample r
-pub record SlopeTo (x : ℕ → ℕ) (last i : ℕ) (rising : Bool) (r : ℕ) : Type 0 where
-  pub from : i ≤ r
-  pub within : r ≤ last
-  pub runs : (a : ℕ) → runsFrom x a (slopeOf rising) i (last - i) ≡ record { first = a; last = r } ∷ runsUpTo x last r
+-- the runs that change by at least `least`
+unfoldable pub steep : ℕ → (ℕ → ℕ) → List Run → List Run
+steep least x [] = []
+steep least x (r ∷ rs) = cond (ltb (swingOf (x (r .first)) (x (r .last))) least) (steep least x rs) (r ∷ steep least x rs)
 
--- it ends at sample b, where the others start, or there is none
-abbrev pub runsBy : (ℕ → ℕ) → ℕ → ℕ → RunEnd → List Run
-runsBy x last a (RunEnd.At b) = record { first = a; last = b } ∷ runsUpTo x last b
-runsBy x last a RunEnd.Level = []
+-- a run is told, and those that start where it ends; or none is
+abbrev pub runsBy : (ℕ → ℕ) → ℕ → NextRun → List Run
+runsBy x last (Of a b) = record { first = a; last = b } ∷ runsUpTo x last b
+runsBy x last NextRun.End = []
 
-abbrev pub endWithin : ℕ → ℕ → RunEnd → Type 0
-endWithin a last (RunEnd.At b) = (a < b) × (b ≤ last)
-endWithin a last RunEnd.Level = Unit {0}
+-- its last sample is not before sample i
+abbrev pub runWithin : ℕ → ℕ → NextRun → Type 0
+runWithin i last (Of a b) = (a ≤ b) × (i ≤ b) × (b ≤ last)
+runWithin i last NextRun.End = Unit {0}
 
-pub record RunTo (x : ℕ → ℕ) (last a : ℕ) (r : RunEnd) : Type 0 where
-  pub runs : runsUpTo x last a ≡ runsBy x last a r
-  pub within : endWithin a last r
+-- of the runs that are left at sample i, where the one from sample a on rises or falls
+pub record SlopeTo (x : ℕ → ℕ) (least last a i : ℕ) (rising : Bool) (r : NextRun) : Type 0 where
+  pub runs : steep least x (runsFrom x a (slopeOf rising) i (last - i)) ≡ steep least x (runsBy x last r)
+  pub within : runWithin i last r
+
+-- of the runs from sample a on
+pub record RunTo (x : ℕ → ℕ) (least last a : ℕ) (r : NextRun) : Type 0 where
+  pub runs : steep least x (runsUpTo x last a) ≡ steep least x (runsBy x last r)
+  pub within : runWithin (a + 1) last r
 
 -- ---- the swings from a place on: the next one and those from the next place on, or none
 abbrev pub saidOnLine : ℕ → Float → (ℕ → ℕ) → ℕ → OnLine → List Swing

@@ -35,7 +35,7 @@ fn double_at(data: &[u8], start: usize, step: usize, i: usize) -> f64
 }
 
 // How far apart two samples are.
-fn swing_of(va: u8, vb: u8) -> u8
+pub(crate) fn swing_of(va: u8, vb: u8) -> u8
     ensures { λ r. ⌜ r ≡ swingOf va vb ⌝ }
 {
     if va < vb { vb - va } else { va - vb }

@@ -1,6 +1,8 @@
 // The scan of a picture's lines for swings (document 01, Length): from a place to the next run that has a rise.
 ghost use mathlib.Core.Path.{_≡_};
+ghost use mathlib.Core.Bool.{cond, not, _&&_};
 ghost use Prim.Native.Nat.{_+_, _-_, _*_, _≤_, _<_, _^_};
+ghost use lib.Dec.{ltb};
 ghost use lib.ListN.{length};
 ghost use Rattle.blur.specs.Line.{sample, linesOn, InCourse};
 ghost use Rattle.blur.specs.Runs.{stepOf, turnsAt};
@@ -9,6 +11,7 @@ ghost use Rattle.blur.specs.Scan.{slopeOf, LevelTo, SlopeTo, RunTo, said
 use crate::rises::Rise;
 use crate::rises::rise_of;
 use crate::rises::sample_at;
+use crate::rises::swing_of;
 use crate::select::narrower;
 use crate::select::stronger;
 use crate::select::wider;
@@ -17,10 +20,10 @@ use numbers::clamp_u8;
 use raster::direction::RasterDirection4;
 use raster::lines::line_at;
 
-// Where a run ends. A line that never changes has none.
-pub enum RunEnd {
-    At(usize),
-    Level,
+// A line's next run, from its first sample to its last. A line that never changes has none.
+pub enum NextRun {
+    Of(usize, usize),
+    End,
 }
 
 // The next swing of a line, with the sample where the next run starts.
@@ -100,43 +103,83 @@ fn turns(rising: bool, v: u8, w: u8) -> bool
     if rising { w < v } else { v < w }
 }
 
-// Where a run ends that rises, or falls, up to sample `from`.
-fn slope_end(
+// Whether a run is told: it turns, and changed enough.
+fn is_told(turns: bool, change: u8, least: u8) -> bool
+    ensures { λ r. ⌜ r ≡ (not (ltb change least) && turns) ⌝ }
+{
+    if change < least {
+        return false;
+    }
+    turns
+}
+
+// Where the present run starts, from whether it turned at sample `at`; and the same of its value there, and of whether it rises.
+// A struct of the three would be branched over.
+fn start_of(turned: bool, at: usize, start: usize) -> usize
+    ensures { λ r. ⌜ r ≡ cond turned at start ⌝ }
+{
+    if turned { at } else { start }
+}
+
+fn value_of(turned: bool, v: u8, value: u8) -> u8
+    ensures { λ r. ⌜ r ≡ cond turned v value ⌝ }
+{
+    if turned { v } else { value }
+}
+
+fn rises_on(turned: bool, rising: bool) -> bool
+    ensures { λ r. ⌜ r ≡ cond turned (not rising) rising ⌝ }
+{
+    if turned { !rising } else { rising }
+}
+
+// The run that starts at sample `first` and rises, or falls, up to sample `from`; or, where it changes by less than `least`, the
+// next one that changes enough; or the last one. Small runs are passed with no branch to guess.
+fn steep_run(
     data: &[u8],
     start: usize,
     step: usize,
     last: usize,
+    first: usize,
     from: usize,
     rising: bool,
-) -> usize
-    requires { ⌜ (from ≤ last) × (start + last * step < length (now «data»)) ⌝ }
-    ensures { λ r. ⌜ SlopeTo (sample (now («data» .entry)) start step) last from rising r ⌝ }
+    least: u8,
+) -> NextRun
+    requires { ⌜ (first ≤ from) × (from ≤ last) × (start + last * step < length (now «data»)) ⌝ }
+    ensures { λ r. ⌜ SlopeTo (sample (now («data» .entry)) start step) least last first from rising r ⌝ }
 {
+    let mut a = first;
+    let mut value = sample_at(data, start, step, first);
     let mut v = sample_at(data, start, step, from);
+    let mut rises = rising;
     let mut at = from;
     while at < last {
         let next = at + 1;
         let w = sample_at(data, start, step, next);
-        if turns(rising, v, w) {
-            return at;
+        let turned = turns(rises, v, w);
+        if is_told(turned, swing_of(value, v), least) {
+            return NextRun::Of(a, at);
         }
+        a = start_of(turned, at, a);
+        value = value_of(turned, v, value);
+        rises = rises_on(turned, rises);
         v = w;
         at = next;
     }
-    at
+    NextRun::Of(a, at)
 }
 
-// Where the run that starts at sample a ends.
-fn run_end(data: &[u8], start: usize, step: usize, last: usize, a: usize) -> RunEnd
+// The next run of a line, from the one that starts at sample a on, that changes by at least `least`; or the last one.
+fn next_run(data: &[u8], start: usize, step: usize, last: usize, a: usize, least: u8) -> NextRun
     requires { ⌜ (a < last) × (start + last * step < length (now «data»)) ⌝ }
-    ensures { λ r. ⌜ RunTo (sample (now («data» .entry)) start step) last a r ⌝ }
+    ensures { λ r. ⌜ RunTo (sample (now («data» .entry)) start step) least last a r ⌝ }
 {
     let i = level_end(data, start, step, last, a);
     if last <= i {
-        return RunEnd::Level;
+        return NextRun::End;
     }
     let rising = sample_at(data, start, step, i) < sample_at(data, start, step, i + 1);
-    RunEnd::At(slope_end(data, start, step, last, i + 1, rising))
+    steep_run(data, start, step, last, a, i + 1, rising, least)
 }
 
 fn scaled(s: Swing, pixel: f64) -> Swing
@@ -168,10 +211,10 @@ fn next_on_line(
     let last = n - 1;
     let mut a = from;
     while a < last {
-        let RunEnd::At(b) = run_end(data, start, step, last, a) else {
+        let NextRun::Of(first, b) = next_run(data, start, step, last, a, minimum_amplitude) else {
             return OnLine::End;
         };
-        if let Rise::Found(s) = rise_of(data, start, step, a, b, minimum_amplitude) {
+        if let Rise::Found(s) = rise_of(data, start, step, first, b, minimum_amplitude) {
             return OnLine::Next(scaled(s, pixel), b);
         }
         a = b;

@@ -3,7 +3,7 @@ use mathlib.Core.Path.{_≡_, refl, sym, _∙_}
 use Prim.Native.Nat.{_-_, _≤_, _^_}
 use native.Mathlib.Omega.{arith}
 use borrow.Author.Needs.{needs}
-use Rattle.blur.specs.declared.scan.RunEnd.the-variants.{At}
+use Rattle.blur.specs.declared.scan.NextRun.the-variants.{Of}
 use Rattle.blur.specs.Line.{sample}
 use Rattle.blur.specs.Swings.{lineSwings}
 use Rattle.blur.specs.Scan.{RunTo}
@@ -31,11 +31,11 @@ sub-last c = omega arith
 loop-holds : tie.Need-loop-holds Inv-loop μ-loop
 loop-holds c = refl
 
-run-end-requires : tie.Need-run-end-requires Inv-loop μ-loop
-run-end-requires c κs = (c .loop-test .taken, c .before .before .before .before .pre .1)
+next-run-requires : tie.Need-next-run-requires Inv-loop μ-loop
+next-run-requires c κs = (c .loop-test .taken, c .before .before .before .before .pre .1)
 
-enum-known-b : tie.Need-enum-known-b Inv-loop μ-loop
-enum-known-b c = search needs
+enum-known-first : tie.Need-enum-known-first Inv-loop μ-loop
+enum-known-first c = search needs
 
 enum-told : tie.Need-enum-told Inv-loop μ-loop
 enum-told c = search needs
@@ -45,21 +45,21 @@ returns-2 c =
     let l = c .before .before .before .before in
     let a = l .before .before .before .args in
     l .loop .inv
-    ∙ swings-level (a .minimum-amplitude) (a .pixel) (sample (a .«data» .now) (a .start) (a .step)) (a .n) (l .loop .a) (l .before .if1 .left) (rw (c .enum-told .given .1) at (c .before .before .run-end .ensures))
+    ∙ swings-level (a .minimum-amplitude) (a .pixel) (sample (a .«data» .now) (a .start) (a .step)) (a .n) (l .loop .a) (l .before .if1 .left) (rw (c .enum-told .given .1) at (c .before .before .next-run .ensures))
 
 -- the run that was found
 ran : (c : tie.After-known-told Inv-loop μ-loop)
     → let l = c .before .before .before .before .before in let a = l .before .before .before .args in
-    RunTo (sample (a .«data» .now) (a .start) (a .step)) (a .n - 1) (l .loop .a) (At (c .before .b .given .0 .0))
-ran c = rw (c .before .b .given .1) at (c .before .before .before .run-end .ensures)
+    RunTo (sample (a .«data» .now) (a .start) (a .step)) (a .minimum-amplitude) (a .n - 1) (l .loop .a) (Of (c .before .first .given .0 .0) (c .before .first .given .0 .1 .0))
+ran c = rw (c .before .first .given .1) at (c .before .before .before .next-run .ensures)
 
 rise-of-requires : tie.Need-rise-of-requires Inv-loop μ-loop
 rise-of-requires c κs =
     let s = c .before .before .before .before .before .before .before .before in
-    let b = c .before .b .given .0 .0 in
+    let b = c .before .first .given .0 .1 .0 in
     let w = ran c .within in
     let small : s .args .n ≤ 2 ^ 53 = s .pre .0 in
-    (omega arith, omega arith, sample-within (s .args .start) (s .args .step) {i = b} (w .1) (s .pre .1))
+    (omega arith, omega arith, sample-within (s .args .start) (s .args .step) {i = b} (w .2) (s .pre .1))
 
 enum-known-s : tie.Need-enum-known-s Inv-loop μ-loop
 enum-known-s c = search needs
@@ -75,7 +75,7 @@ returns-3 c =
     let a = l .before .before .before .args in
     rw (c .scaled .ensures)
     (l .loop .inv
-    ∙ swings-found (a .minimum-amplitude) (a .pixel) (sample (a .«data» .now) (a .start) (a .step)) (a .n) (l .loop .a) (k .before .b .given .0 .0) (l .before .if1 .left) (ran k) (f .s .given .0 .0)
+    ∙ swings-found (a .minimum-amplitude) (a .pixel) (sample (a .«data» .now) (a .start) (a .step)) (a .n) (l .loop .a) (k .before .first .given .0 .0) (k .before .first .given .0 .1 .0) (l .before .if1 .left) (ran k) (f .s .given .0 .0)
     (sym (f .before .before .rise-of .ensures) ∙ f .s .given .1))
 
 enum-told-2 : tie.Need-enum-told-2 Inv-loop μ-loop
@@ -90,7 +90,7 @@ loop-again c =
     let l = k .before .before .before .before .before in
     let a = l .before .before .before .args in
     l .loop .inv
-    ∙ swings-nothing (a .minimum-amplitude) (a .pixel) (sample (a .«data» .now) (a .start) (a .step)) (a .n) (l .loop .a) (k .before .b .given .0 .0) (l .before .if1 .left) (ran k)
+    ∙ swings-nothing (a .minimum-amplitude) (a .pixel) (sample (a .«data» .now) (a .start) (a .step)) (a .n) (l .loop .a) (k .before .first .given .0 .0) (k .before .first .given .0 .1 .0) (l .before .if1 .left) (ran k)
     (sym (c .before .before .rise-of .ensures) ∙ c .enum-told2 .given .1)
 
 returns-4 : tie.Need-returns-4 Inv-loop μ-loop
@@ -109,8 +109,8 @@ next-on-line-spec =
     returns
     sub-last
     loop-holds
-    run-end-requires
-    enum-known-b
+    next-run-requires
+    enum-known-first
     enum-told
     returns-2
     rise-of-requires

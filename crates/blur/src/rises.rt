@@ -65,15 +65,16 @@ fn crossed(rising: bool, level: f64, v0: f64, v1: f64) -> bool
     }
 }
 
-// Where between sample i, v0, and the next, v1, the level lies.
+// Where between sample i, v0, and the next, v1, the level lies. A u32 becomes a double in one step, a usize in five.
 fn place(i: usize, level: f64, v0: f64, v1: f64) -> f64
-    requires { ⌜ i ≤ 2 ^ 53 ⌝ }
+    requires { ⌜ i < 2 ^ 32 ⌝ }
     ensures { λ r. ⌜ r ≡ placeAt i level v0 v1 ⌝ }
 {
+    let at = (i as u32) as f64;
     if v1 == v0 {
-        (i as f64) + 0.0
+        at + 0.0
     } else {
-        (i as f64) + (level - v0) / (v1 - v0)
+        at + (level - v0) / (v1 - v0)
     }
 }
 
@@ -87,7 +88,7 @@ fn crossing(
     level: f64,
     rising: bool,
 ) -> Mark
-    requires { ⌜ (a ≤ b) × (b ≤ 2 ^ 53) × (start + b * step < length (now «data»)) ⌝ }
+    requires { ⌜ (a ≤ b) × (b < 2 ^ 32) × (start + b * step < length (now «data»)) ⌝ }
     ensures { λ r. ⌜ r ≡ crossingOf (sample (now («data» .entry)) start step) rising level a (b - a) ⌝ }
 {
     let mut v0 = double_at(data, start, step, a);
@@ -132,7 +133,7 @@ pub(crate) fn rise_of(
     b: usize,
     minimum_amplitude: u8,
 ) -> Rise
-    requires { ⌜ (a ≤ b) × (b ≤ 2 ^ 53) × (start + b * step < length (now «data»)) ⌝ }
+    requires { ⌜ (a ≤ b) × (b < 2 ^ 32) × (start + b * step < length (now «data»)) ⌝ }
     ensures { λ r. ⌜ r ≡ riseOf «minimum_amplitude» (sample (now («data» .entry)) start step) a b ⌝ }
 {
     let va = sample_at(data, start, step, a);

@@ -8,6 +8,7 @@ pub mod Estimate
 pub mod Filling
 pub mod Keys
 pub mod LengthExamples
+pub mod Levels
 pub mod Line
 pub mod LineSwings
 pub mod Passes
@@ -17,6 +18,7 @@ pub mod Radix
 pub mod Rise
 pub mod Rounds
 pub mod Runs
+pub mod RustRise
 pub mod SameLength
 pub mod SameSwings
 pub mod Scans

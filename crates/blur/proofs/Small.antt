@@ -46,11 +46,11 @@ units-neg f q k = go (ltb (q * 2 ^ k) (2 ^ (low f + suc (emax f))))
     go true = odd-neg (suc (prec f)) q k (low f)
     go false = unfold neg in refl
 
-round-neg : (f : Format) (a c : ℕ) → round f true a c ≡ neg (round f false a c)
+pub round-neg : (f : Format) (a c : ℕ) → round f true a c ≡ neg (round f false a c)
 round-neg f a c = round-is f true a c ∙ units-neg f _ _ ∙ ap neg (sym (round-is f false a c))
 
 -- no sign
-abbrev Plus : Float → Type 0
+abbrev pub Plus : Float → Type 0
 Plus nan = ⊥
 Plus (inf s) = s ≡ false
 Plus (fin s m e) = s ≡ false
@@ -68,10 +68,10 @@ units-plus f q k = go (ltb (q * 2 ^ k) (2 ^ (low f + suc (emax f))))
     go true = odd-plus (suc (prec f)) q k (low f)
     go false = refl
 
-round-plus : (f : Format) (a c : ℕ) → Plus (round f false a c)
+pub round-plus : (f : Format) (a c : ℕ) → Plus (round f false a c)
 round-plus f a c = subst Plus (sym (round-is f false a c)) (units-plus f _ _)
 
-at-most : (a b : ℕ) → T (ltb a b || (eqb a b && true)) → a ≤ b
+pub at-most : (a b : ℕ) → T (ltb a b || (eqb a b && true)) → a ≤ b
 at-most a b t = go (ltb a b) (eqb a b) (ltb→lt a b) (eqb→eq a b) t
   where
     go : (p q : Bool) → (T p → a < b) → (T q → a ≡ b) → T (p || (q && true)) → a ≤ b

@@ -23,7 +23,7 @@ use Rattle.blur.proofs.EachSwing.{RiseIs, rise-cond, rise-map, picture-
 use Rattle.blur.proofs.Above.{pixel-is}
 
 -- ---- samples and levels
-byte-value : (v : ℕ) → v ≤ 255 → HasValue (ofInt binary64 (pos v)) false v 1
+pub byte-value : (v : ℕ) → v ≤ 255 → HasValue (ofInt binary64 (pos v)) false v 1
 unfolding ofInt
 byte-value v h = round-whole binary64 false v (le-trans h (lit≤ tt))
 

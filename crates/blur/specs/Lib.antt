@@ -4,6 +4,7 @@ pub mod Line
 pub mod Median
 pub mod Rise
 pub mod Runs
+pub mod RustRise
 pub mod Scan
 pub mod Select
 pub mod Swings

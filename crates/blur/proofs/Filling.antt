@@ -14,7 +14,7 @@ use Rattle.blur.specs.declared.scan.Course.{Course}
 use Rattle.blur.specs.declared.scan.Scan.{Scan}
 use Rattle.blur.specs.declared.scan.Scanned.{Scanned}
 use Rattle.blur.specs.Median.{larger, strongest}
-use Rattle.blur.specs.Scan.{rest, begun, widenedBy, spanOf, Bytes, Scans, Filled}
+use Rattle.blur.specs.Scan.{Open, rest, begun, widenedBy, spanOf, Bytes, Scans, Filled}
 use Rattle.blur.proofs.Strongest.{strongest-snoc}
 use Rattle.blur.proofs.Spans.{span-snoc}
 
@@ -38,6 +38,7 @@ module _ (Real : Scanned → Type 0) (bytes : List ℕ) (c : Course) (ys : List 
     pub counted : out .next .count ≡ length past
     pub top : out .next .strongest ≡ strongest past
     pub span : out .next .span ≡ spanOf past
+    pub opened : Open c (out .next .place)
     pub same : length list ≡ length ys
     pub place : out .on ≡ true → out .at ≤ length past - 1
     pub stored : take (length past) (cond (out .on) (set list (out .at) (out .swing)) list) ≡ past
@@ -53,6 +54,7 @@ module _ (Real : Scanned → Type 0) (bytes : List ℕ) (c : Course) (ys : List 
     counted = refl;
     top = refl;
     span = refl;
+    opened = record { shut = λ _. (refl, refl, refl); start-is = λ h. absurd (omega arith); len-is = λ h. absurd (omega arith) };
     same = refl;
     place = λ _. omega arith;
     stored = refl;
@@ -120,6 +122,10 @@ module _ (Real : Scanned → Type 0) (bytes : List ℕ) (c : Course) (ys : List 
           span-after true e = says .goes e .span ∙ ap (λ z. widenedBy z (r .swing .width)) (t .span) ∙ sym (span-snoc (spanOf []) (t .past) (r .swing))
           span-after false e = ap (λ (s : Scan). s .span) (says .stops e .same) ∙ t .span
 
+          pub opened-after : (b : Bool) → r .on ≡ b → Open c (r .next .place)
+          opened-after true e = says .goes e .opened
+          opened-after false e = subst (λ (s : Scan). Open c (s .place)) (sym (says .stops e .same)) (t .opened)
+
           pub place-after : (b : Bool) → r .on ≡ b → b ≡ true → r .at ≤ length (longer b) - 1
           place-after true e _ = omega (arith, says .goes e .at, t .counted, one-more)
           place-after false e z = absurd (true≢false (sym z))
@@ -152,6 +158,7 @@ module _ (Real : Scanned → Type 0) (bytes : List ℕ) (c : Course) (ys : List 
             counted = counted-after (r .on) refl;
             top = top-after (r .on) refl;
             span = span-after (r .on) refl;
+            opened = opened-after (r .on) refl;
             same = same-length;
             place = place-after (r .on) refl;
             stored = stored-after (r .on) refl;

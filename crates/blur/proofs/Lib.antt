@@ -11,6 +11,7 @@ pub mod LengthExamples
 pub mod Levels
 pub mod Line
 pub mod LineSwings
+pub mod Opened
 pub mod Passes
 pub mod Place
 pub mod Positive

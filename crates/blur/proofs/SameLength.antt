@@ -26,7 +26,7 @@ module _ (xs ys : List ℕ) {w h s t : ℕ} (l : Laid (length xs) w h s) (k : La
   along-same : lengthAlong xs w h s d m a ≡ lengthAlong ys w h t d m a
   along-same =
       ap (λ (ss : List Swing). cond {A = LineLength} (tooLittle w h m a) Nothing (lengthOf ss m))
-      (swings-same a (pixelOf d) (linesOf xs d w h s) (linesOf ys d w h t) (λ _. refl) 0 0 (lineCount d w h - 0)
+      (swings-same a (pixelOf d) (linesOf xs d w h s) (linesOf ys d w h t) (λ _. refl) 0 0 (lineCount d w h)
       (λ j i below within. let at = one-line d w h (l .width-pos) .of-place j i (omega arith) within in same (colAt d w j i) (rowAt d w j i) (at .col) (at .row)))
 
   refusal-same : (lent : ℕ) → lengthRefusal (length xs) w h s lent ≡ lengthRefusal (length ys) w h t lent

@@ -12,8 +12,7 @@ use Rattle.blur.specs.declared.scan.Scan.{Scan}
 use Rattle.blur.specs.declared.scan.Spotted.{Spotted}
 use Rattle.blur.specs.declared.scan.Span.{Span}
 use Rattle.blur.specs.Line.{linesOn}
-use Rattle.blur.specs.Swings.{swingsAt}
-use Rattle.blur.specs.Scan.{said, halfOf, raisedTo, thinned, rest, widenedBy, Bytes, Scans}
+use Rattle.blur.specs.Scan.{Open, swingsAt, said, halfOf, raisedTo, thinned, rest, widenedBy, Bytes, Scans}
 use Rattle.blur.specs.Median.{larger}
 use Rattle.blur.proofs.Thinned.{atLeast, raised-swings, half-larger, thinned-again, thinned-first}
 
@@ -26,7 +25,7 @@ module _ (bytes : List ℕ) (c : Course) (s : Scan) where
   least = raisedTo (c .«minimum_amplitude») (s .strongest)
 
   raised-from : (p : Place) → from least p ≡ atLeast (halfOf (s .strongest)) (from (c .«minimum_amplitude») p)
-  raised-from p = raised-swings (c .«minimum_amplitude») (halfOf (s .strongest)) (c .pixel) (linesOn bytes c) (p .line) (p .at) (c .count - p .line)
+  raised-from p = raised-swings (c .«minimum_amplitude») (halfOf (s .strongest)) (c .pixel) (linesOn bytes c) (p .line - 1) (p .at) (c .count - (p .line - 1))
 
   raised-rest : (p : Place) (top : ℤ) → halfOf (s .strongest) ≤ halfOf top → thinned top (from least p) ≡ thinned top (from (c .«minimum_amplitude») p)
   raised-rest p top h = ap (thinned top) (raised-from p) ∙ thinned-again (halfOf (s .strongest)) top h (from (c .«minimum_amplitude») p)
@@ -42,11 +41,11 @@ module _ (bytes : List ℕ) (c : Course) (s : Scan) where
         none : rest bytes c s ≡ []
         none = sym (raised-rest (s .place) (s .strongest) (le-refl _)) ∙ ap (thinned (s .strongest)) (answered false off)
 
-    pub scan-goes : r .on ≡ true → {top : ℤ} → top ≡ larger (s .strongest) (r .swing .swing) → {span : Span} → span ≡ widenedBy (s .span) (r .swing .width)
+    pub scan-goes : r .on ≡ true → Open c (r .next) → {top : ℤ} → top ≡ larger (s .strongest) (r .swing .swing) → {span : Span} → span ≡ widenedBy (s .span) (r .swing .width)
         → Scans bytes c s (record { on = true; at = s .count; swing = r .swing; next = record { place = r .next; strongest = top; count = s .count + 1; span = span } })
-    scan-goes on {top} e f =
+    scan-goes on o {top} e f =
         record {
-          goes = λ _. record { list = next; at = refl; count = refl; top = e; span = f };
+          goes = λ _. record { list = next; at = refl; count = refl; top = e; span = f; opened = o };
           stops = λ z. absurd (true≢false z);
           are = are;
         }

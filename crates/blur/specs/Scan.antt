@@ -1,5 +1,5 @@
 -- What the answers of the scan's functions say, in terms of the runs and swings that are left. Only contracts inside the crate cite these.
-use Prim.Native.Nat.{ℕ, _+_, _-_, _/_, _≤_, _<_, max}
+use Prim.Native.Nat.{ℕ, _+_, _-_, _*_, _/_, _≤_, _<_, max}
 use mathlib.Core.Path.{_≡_}
 use mathlib.Core.Bool.{Bool, true, false, cond}
 use mathlib.Core.List.{List, [], _∷_}
@@ -9,12 +9,15 @@ use lib.Signed.{leZ}
 use lib.ListN.{length, getD, take}
 use lib.Ieee.{Float, binary64, ofBits, lt}
 use Rattle.numbers.specs.Scalar.{clampByte}
+use Rattle.raster.specs.declared.lines.ScanLine.{ScanLine}
+use Rattle.raster.specs.Lines.{lineAt}
 use Rattle.blur.specs.declared.swings.Swing.{Swing}
 use Rattle.blur.specs.declared.scan.NextRun.{NextRun}
 use Rattle.blur.specs.declared.scan.NextRun.the-variants.{Of}
 use Rattle.blur.specs.declared.scan.OnLine.{OnLine}
 use Rattle.blur.specs.declared.scan.OnLine.the-variants.{Next, End}
 use Rattle.blur.specs.declared.scan.Course.{Course}
+use Rattle.blur.specs.declared.scan.Place.{Place}
 use Rattle.blur.specs.declared.scan.Spotted.{Spotted}
 use Rattle.blur.specs.declared.scan.Span.{Span}
 use Rattle.blur.specs.declared.scan.Scan.{Scan}
@@ -22,7 +25,7 @@ use Rattle.blur.specs.declared.scan.Scanned.{Scanned}
 use Rattle.blur.specs.Line.{Lines, linesOn}
 use Rattle.blur.specs.Runs.{Run, Slope, Level, Rising, Falling, runsFrom, runsUpTo}
 use Rattle.blur.specs.Rise.{swingOf}
-use Rattle.blur.specs.Swings.{lineSwings, swingsAt}
+use Rattle.blur.specs.Swings.{lineSwings, swingsFrom}
 use Rattle.blur.specs.Median.{larger, strongest}
 
 -- ---- the run from sample a
@@ -63,15 +66,34 @@ pub record RunTo (x : ℕ → ℕ) (least last a : ℕ) (r : NextRun) : Type 0 w
   pub runs : steep least x (runsUpTo x last a) ≡ steep least x (runsBy x last r)
   pub within : runWithin (a + 1) last r
 
--- ---- the swings from a place on: the next one and those from the next place on, or none
+-- the swings of a line from a sample on: the next one and those behind it, or none
 abbrev pub saidOnLine : ℕ → Float → (ℕ → ℕ) → ℕ → OnLine → List Swing
 saidOnLine least pixel x n (Next s b) = s ∷ lineSwings least pixel x n b
 saidOnLine least pixel x n End = []
 
+-- ---- the scan
+
+-- line k of the course, or, behind the last one, none
+abbrev pub lineOn : Course → ℕ → ScanLine
+lineOn c k = cond (ltb k (c .count)) (lineAt (c .direction) (c .width) (c .height) k) (record { col = 0; row = 0; len = 0 })
+
+-- the line before the one to be opened next is open, from where its first sample stands on
+pub record Open (c : Course) (p : Place) : Type 0 where
+  pub shut : p .line ≡ 0 → (p .at ≡ 0) × (p .start ≡ 0) × (p .len ≡ 0)
+  pub start-is : 0 < p .line → p .start ≡ lineOn c (p .line - 1) .row * c .stride + lineOn c (p .line - 1) .col
+  pub len-is : 0 < p .line → p .len ≡ lineOn c (p .line - 1) .len
+
+-- the swings from a place on
+abbrev pub swingsAt : ℕ → Float → Lines → Place → List Swing
+swingsAt least pixel lines p = swingsFrom least pixel lines (p .line - 1) (p .at) (lines .count - (p .line - 1))
+
+-- the next one and those from the next place on, or none
 abbrev pub said : ℕ → Float → Lines → Spotted → List Swing
 said least pixel lines r = cond (r .on) (r .swing ∷ swingsAt least pixel lines (r .next)) []
 
--- ---- the scan
+pub record Spots (bytes : List ℕ) (c : Course) (from : Place) (r : Spotted) : Type 0 where
+  pub list : swingsAt (c .«minimum_amplitude») (c .pixel) (linesOn bytes c) from ≡ said (c .«minimum_amplitude») (c .pixel) (linesOn bytes c) r
+  pub opened : r .on ≡ true → Open c (r .next)
 
 -- half of the strongest swing so far, rounded up
 unfoldable pub halfOf : ℤ → ℕ
@@ -118,7 +140,7 @@ begun = record {
   on = true;
   at = 0;
   swing = record { width = ofBits binary64 0; swing = pos 0 };
-  next = record { place = record { line = 0; at = 0 }; strongest = pos 0; count = 0; span = spanOf [] };
+  next = record { place = record { start = 0; len = 0; at = 0; line = 0 }; strongest = pos 0; count = 0; span = spanOf [] };
 }
 
 -- the answer is the next swing, and where it is stored
@@ -128,6 +150,7 @@ pub record Goes (bytes : List ℕ) (c : Course) (s : Scan) (r : Scanned) : Type 
   pub count : r .next .count ≡ s .count + 1
   pub top : r .next .strongest ≡ larger (s .strongest) (r .swing .swing)
   pub span : r .next .span ≡ widenedBy (s .span) (r .swing .width)
+  pub opened : Open c (r .next .place)
 
 -- the answer is that there is none
 pub record Stops (bytes : List ℕ) (c : Course) (s : Scan) (r : Scanned) : Type 0 where

@@ -1,11 +1,10 @@
 -- The swings of a picture (document 01, Length): those of its lines, in the lines' order.
-use Prim.Native.Nat.{ℕ, zero, suc, _-_}
+use Prim.Native.Nat.{ℕ, zero, suc}
 use mathlib.Core.List.{List, [], _∷_, _++_}
 use lib.Ieee.{Float, binary64, mul}
 use Rattle.blur.specs.declared.swings.Swing.{Swing}
 use Rattle.blur.specs.declared.rises.Rise.{Rise}
 use Rattle.blur.specs.declared.rises.Rise.the-variants.{Found, Nothing}
-use Rattle.blur.specs.declared.scan.Place.{Place}
 use Rattle.blur.specs.Line.{Lines}
 use Rattle.blur.specs.Rise.{riseOf}
 use Rattle.blur.specs.Runs.{Run, runsAfter}
@@ -36,10 +35,6 @@ unfolding lineSwings
 swingsFrom least pixel lines k a zero = []
 swingsFrom least pixel lines k a (suc j) = lineSwings least pixel (lines .line k) (lines .len k) a ++ swingsFrom least pixel lines (suc k) 0 j
 
--- the swings from a place on
-abbrev pub swingsAt : ℕ → Float → Lines → Place → List Swing
-swingsAt least pixel lines p = swingsFrom least pixel lines (p .line) (p .at) (lines .count - p .line)
-
 -- all swings of the lines
 abbrev pub swings : ℕ → Float → Lines → List Swing
-swings least pixel lines = swingsAt least pixel lines (record { line = 0; at = 0 })
+swings least pixel lines = swingsFrom least pixel lines 0 0 (lines .count)

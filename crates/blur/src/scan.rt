@@ -4,10 +4,11 @@ ghost use mathlib.Core.Bool.{cond, not, _&&_};
 ghost use Prim.Native.Nat.{_+_, _-_, _*_, _≤_, _<_, _^_};
 ghost use lib.Dec.{ltb};
 ghost use lib.ListN.{length};
-ghost use Rattle.blur.specs.Line.{sample, linesOn, InCourse};
+ghost use Rattle.raster.specs.Lines.{Sides, lineCount};
+ghost use Rattle.blur.specs.Line.{sample, InCourse};
 ghost use Rattle.blur.specs.Runs.{stepOf, turnsAt};
-ghost use Rattle.blur.specs.Swings.{scaledBy, lineSwings, swingsAt};
-ghost use Rattle.blur.specs.Scan.{slopeOf, LevelTo, SlopeTo, RunTo, saidOnLine, said, raisedTo, widenedBy, Scans, begun};
+ghost use Rattle.blur.specs.Swings.{scaledBy, lineSwings};
+ghost use Rattle.blur.specs.Scan.{slopeOf, LevelTo, SlopeTo, RunTo, saidOnLine, lineOn, Open, Spots, raisedTo, widenedBy, Scans, begun};
 use crate::rises::Rise;
 use crate::rises::rise_of;
 use crate::rises::sample_at;
@@ -18,6 +19,7 @@ use crate::select::wider;
 use crate::swings::Swing;
 use numbers::clamp_u8;
 use raster::direction::RasterDirection4;
+use raster::lines::ScanLine;
 use raster::lines::line_at;
 
 // A line's next run, from its first sample to its last. A line that never changes has none.
@@ -46,10 +48,13 @@ pub struct Course {
     pub minimum_amplitude: u8,
 }
 
-// A line, and a sample of it at which a run starts.
+// The open line, by where its first sample stands and how many it has; the sample at which its next run starts; and the line to be
+// opened next. Before the first one there is none: it has no sample.
 pub struct Place {
-    pub line: usize,
+    pub start: usize,
+    pub len: usize,
     pub at: usize,
+    pub line: usize,
 }
 
 pub struct Spotted {
@@ -222,24 +227,38 @@ fn next_on_line(
     OnLine::End
 }
 
-// The next swing of the lines, from a place on.
-fn next_swing(data: &[u8], course: Course, from: Place) -> Spotted
-    requires { ⌜ InCourse course (length (now «data»)) ⌝ }
-    ensures { λ r. ⌜ swingsAt (course .«minimum_amplitude») (course .pixel) (linesOn (now («data» .entry)) course) from
-        ≡ said (course .«minimum_amplitude») (course .pixel) (linesOn (now («data» .entry)) course) r ⌝ }
+// A line of the course, or, behind the last one, none.
+fn line_or_none(course: Course, line: usize) -> ScanLine
+    requires { ⌜ Sides (course .width) (course .height) × (line < course .count → line < lineCount (course .direction) (course .width) (course .height)) ⌝ }
+    ensures { λ r. ⌜ r ≡ lineOn course line ⌝ }
 {
     let direction = course.direction;
-    let mut k = from.line;
-    let mut a = from.at;
-    while k < course.count {
-        let line = line_at(direction, course.width, course.height, k);
-        let start = line.row * course.stride + line.col;
+    if line < course.count {
+        return line_at(direction, course.width, course.height, line);
+    }
+    ScanLine {
+        col: 0,
+        row: 0,
+        len: 0,
+    }
+}
+
+// The next swing of the lines, from a place on.
+fn next_swing(data: &[u8], course: Course, from: Place) -> Spotted
+    requires { ⌜ InCourse course (length (now «data»)) × Open course from ⌝ }
+    ensures { λ r. ⌜ Spots (now («data» .entry)) course from r ⌝ }
+{
+    let mut start = from.start;
+    let mut len = from.len;
+    let mut at = from.at;
+    let mut line = from.line;
+    while line <= course.count {
         let on = next_on_line(
             data,
             start,
             course.step,
-            line.len,
-            a,
+            len,
+            at,
             course.pixel,
             course.minimum_amplitude,
         );
@@ -247,11 +266,19 @@ fn next_swing(data: &[u8], course: Course, from: Place) -> Spotted
             return Spotted {
                 on: true,
                 swing,
-                next: Place { line: k, at },
+                next: Place {
+                    start,
+                    len,
+                    at,
+                    line,
+                },
             };
         }
-        a = 0;
-        k += 1;
+        let next = line_or_none(course, line);
+        start = next.row * course.stride + next.col;
+        len = next.len;
+        at = 0;
+        line += 1;
     }
     Spotted {
         on: false,
@@ -259,7 +286,7 @@ fn next_swing(data: &[u8], course: Course, from: Place) -> Spotted
             width: 0.0,
             swing: 0,
         },
-        next: Place { line: k, at: 0 },
+        next: from,
     }
 }
 
@@ -283,7 +310,7 @@ fn raised(least: u8, strongest: i32) -> u8
 
 // The scan's next answer.
 pub(crate) fn next(data: &[u8], course: Course, s: Scan) -> Scanned
-    requires { ⌜ InCourse course (length (now «data»)) × (s .count < 2 ^ 63) ⌝ }
+    requires { ⌜ InCourse course (length (now «data»)) × (s .count < 2 ^ 63) × Open course (s .place) ⌝ }
     ensures { λ r. ⌜ Scans (now («data» .entry)) course s r ⌝ }
 {
     let place = s.place;
@@ -329,7 +356,12 @@ pub(crate) fn begin() -> Scanned
             swing: 0,
         },
         next: Scan {
-            place: Place { line: 0, at: 0 },
+            place: Place {
+                start: 0,
+                len: 0,
+                at: 0,
+                line: 0,
+            },
             strongest: 0,
             count: 0,
             span: Span {

@@ -7,8 +7,7 @@ use borrow.Author.Tests.{not-true, not-false}
 use mir.Syntax.{w32}
 use mir.ValLaws.{toZ-ofZ}
 use Rattle.blur.specs.Line.{linesOn}
-use Rattle.blur.specs.Swings.{swingsAt}
-use Rattle.blur.specs.Scan.{said, raisedTo}
+use Rattle.blur.specs.Scan.{swingsAt, said, raisedTo}
 use Rattle.blur.specs.Median.{larger}
 use Rattle.blur.proofs.Scans.{scan-stops, scan-goes}
 use Rattle.blur.proofs.scan.next.Statement.{statement}
@@ -19,8 +18,12 @@ raised-requires c κs = search needs
 
 next-swing-requires : tie.Need-next-swing-requires
 next-swing-requires c κs =
-    let i = c .before .before .before .before .pre .0 in
-    record { laid = i .laid; step-is = i .step-is; count-is = i .count-is; pixel-is = i .pixel-is }
+    let s = c .before .before .before .before in
+    let i = s .pre .0 in
+    let o = s .pre .2 in (
+      record { laid = i .laid; step-is = i .step-is; count-is = i .count-is; pixel-is = i .pixel-is },
+      record { shut = o .shut; start-is = o .start-is; len-is = o .len-is },
+    )
 
 least-is : (c : tie.After-raised) → let a = c .before .before .before .before .args in c .raised .result ≡ raisedTo (a .course .«minimum_amplitude») (a .s .strongest)
 least-is c =
@@ -34,7 +37,7 @@ spotted : (c : tie.After-next-swing)
 spotted c =
     let a = c .before .before .before .before .before .args in
     let lines = linesOn (a .«data» .now) (a .course) in
-    subst (λ (least : ℕ). swingsAt least (a .course .pixel) lines (a .s .place) ≡ said least (a .course .pixel) lines (c .next-swing .result)) (least-is (c .before)) (c .next-swing .ensures)
+    subst (λ (least : ℕ). swingsAt least (a .course .pixel) lines (a .s .place) ≡ said least (a .course .pixel) lines (c .next-swing .result)) (least-is (c .before)) (c .next-swing .ensures .list)
 
 returns : tie.Need-returns
 returns c =
@@ -50,7 +53,7 @@ widened-requires : tie.Need-widened-requires
 widened-requires c κs = search needs
 
 add-count : tie.Need-add-count
-add-count c = search needs
+add-count c = let s = c .before .before .before .before .before .before .before .before .before .before .before .before .before in record { fits = omega (arith, s .pre .1) }
 
 returns-2 : tie.Need-returns-2
 returns-2 c =
@@ -60,6 +63,7 @@ returns-2 c =
     let k = n .before .before .before .before in
     scan-goes (k .before .args .«data» .now) (k .before .args .course) (k .before .args .s) (n .next-swing .result) (spotted n)
     (λ i. omega (arith, k .shared-slice-known .given i)) (not-false _ (t .if1 .left))
+    (let o = n .next-swing .ensures .opened (not-false _ (t .if1 .left)) in record { shut = o .shut; start-is = o .start-is; len-is = o .len-is })
     (toZ-ofZ w32 _ (record { sfits = g .stronger .ok })
     ∙ g .stronger .ensures
     ∙ ap₂ larger (toZ-ofZ w32 (k .before .args .s .strongest) (record { sfits = omega (arith, g .before .before .struct-told2 .given) })) (toZ-ofZ w32 (n .next-swing .result .swing .swing) (record { sfits = omega (arith, g .before .struct-told3 .given) })))

@@ -42,7 +42,7 @@ use denote.Triple.Table.{entered, cited}
 use denote.Triple.Walked.{says, needs, Stays, stay-dropped, stay-slice, walkOf, AllGo, goes-dropped, goes-slice, Walks, ends-at, walked, walk-meets}
 use denote.Exit.{yes}
 use Rattle.blur.specs.Line.{InCourse}
-use Rattle.blur.specs.Scan.{rest, begun, Scans}
+use Rattle.blur.specs.Scan.{Open, rest, begun, Scans}
 use Rattle.blur.specs.declared.swings.Swing.{Swing}
 use Rattle.blur.specs.declared.scan.Course.{Course}
 use Rattle.blur.specs.declared.scan.Scan.{Scan}
@@ -134,11 +134,11 @@ module _ {M : Type 1} (𝓤 : URA M) (H : Heap 𝓤) (A : Atoms 𝓤) (W : Given
   Bytes = ‵ (ShrSlice (named 0) κ u8 .own bytes (bytes-val ∷ []))
 
   module _ (in-course : InCourse m (length xs)) (is-m : Is Q.the-row m (course-val m)) where
-    asked : (t : Scan) → t .count < 2 ^ 63 → Is N.the-row t (scan-val t) → ent 𝓤 (⋆ 𝓤 H A (‵ (flft κ q) ∷ Bytes ∷ [])) (sep 𝓤 (Next 𝓤 H A mem run .pre (to t)) (⋆ 𝓤 H A (Bytes ∷ [])))
-    asked t few is =
+    asked : (t : Scan) → t .count < 2 ^ 63 → Open m (t .place) → Is N.the-row t (scan-val t) → ent 𝓤 (⋆ 𝓤 H A (‵ (flft κ q) ∷ Bytes ∷ [])) (sep 𝓤 (Next 𝓤 H A mem run .pre (to t)) (⋆ 𝓤 H A (Bytes ∷ [])))
+    asked t few opened is =
         qed W (‵ (flft κ q) ∷ Bytes ∷ []) ∵ move ! (1 ∷ []) $ use1 W (Bytes ⊛ Bytes) (shr-slice-copy 𝓤 H A W (named 0) κ u8 .twice bytes (bytes-val ∷ [])) $ split ! $
         nothing ! $ owned ! N.the-row (Is N.the-row) (LL.makes N.the-type N′.the-plain 𝓤 H A) t _ is $ fjoin ! $ owned ! Q.the-row (Is Q.the-row) (LL.makes Q.the-type Q′.the-plain 𝓤 H A) m _ is-m $ fjoin ! $ move ! (1 ∷ 0 ∷ []) $ fjoin ! $
-        nothing ! $ move ! (3 ∷ 0 ∷ []) $ join ! $ join ! $ stating ! (InCourse m (length xs) × (t .count < 2 ^ 63)) (in-course, few) $ move ! (1 ∷ 0 ∷ []) $ join ! $ frame ! $ done !
+        nothing ! $ move ! (3 ∷ 0 ∷ []) $ join ! $ join ! $ stating ! (InCourse m (length xs) × (t .count < 2 ^ 63) × Open m (t .place)) (in-course, few, opened) $ move ! (1 ∷ 0 ∷ []) $ join ! $ frame ! $ done !
 
     module _ (room : Room S.the-row (length ys)) (some : 0 < length ys) (enough : length (rest xs m (begun .next)) ≤ length ys) where
       few-past : (t : At xs m ys) → t .out .next .count < 2 ^ 63
@@ -219,7 +219,7 @@ module _ {M : Type 1} (𝓤 : URA M) (H : Heap 𝓤) (A : Atoms 𝓤) (W : Given
             move ! (1 ∷ []) $ drop ! $ owned ! S.the-row (Is S.the-row) (LL.makes S.the-type S′.the-plain 𝓤 H A) (t .out .swing) _ (is-swing t) $ move ! (1 ∷ 0 ∷ []) $
             elem-put ! S.the-row fullShare (t .list) (t .out .at) (t .out .swing) (swing-val (t .out .swing)) b o has-place $
             -- the scan goes on
-            move ! (5 ∷ 6 ∷ []) $ use2 W (raw (Next 𝓤 H A mem run .pre (to (t .out .next))) ⊛ Bytes) (asked (t .out .next) (few-past t) (is-next t)) $ split ! $
+            move ! (5 ∷ 6 ∷ []) $ use2 W (raw (Next 𝓤 H A mem run .pre (to (t .out .next))) ⊛ Bytes) (asked (t .out .next) (few-past t) (t .opened) (is-next t)) $ split ! $
             calls-at-last ! fm (Next 𝓤 H A mem run) known (to (t .out .next)) (and-then ! (load ! (from ! (stop !)) (look ! 7 refl)) (and-then ! (load ! (from ! (stop !)) (look ! 8 refl)) (and-then ! (load ! (from ! (fld ! refl (stop !))) (look-in ! 3 (sub ! 3 refl (whole !)))) (no-more !)))) (λ w.
             answers ! tt next.ended (next.clauses 𝓤 H A mem run) (to (t .out .next)) w (λ r _. Scans xs m (t .out .next) r) (λ r _. id⊢ 𝓤 _) (λ r _ c is. use1 W (‵ (flft κ q) ⊛ ‵ ftrue) (id⊢ 𝓤 _) $ split ! $
             -- [the token; true; true; the bytes; the row; _5; _6; _7; _8; _1; …]

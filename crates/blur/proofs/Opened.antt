@@ -60,7 +60,7 @@ module _ (c : Course) (bytes : List ℕ) (in-course : InCourse c (length bytes))
   line-here h = rw (lt-ltb line (c .count) (omega arith)) refl
 
   abbrev Inside : ℕ → ℕ → Type 0
-  Inside start n = (n ≤ 2 ^ 32) × (start + (n - 1) * c .step < length bytes)
+  Inside start n = (n ≤ 2 ^ 53) × (start + (n - 1) * c .step < length bytes)
 
   -- it lies in the bytes
   pub open-within : Inside (p .start) (p .len)

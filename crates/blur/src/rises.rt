@@ -65,12 +65,12 @@ fn crossed(rising: bool, level: f64, v0: f64, v1: f64) -> bool
     }
 }
 
-// Where between sample i, v0, and the next, v1, the level lies. A u32 becomes a double in one step, a usize in five.
+// Where between sample i, v0, and the next, v1, the level lies. The machine turns an i64 into a double in one step, a usize in five.
 fn place(i: usize, level: f64, v0: f64, v1: f64) -> f64
-    requires { ⌜ i < 2 ^ 32 ⌝ }
+    requires { ⌜ i ≤ 2 ^ 53 ⌝ }
     ensures { λ r. ⌜ r ≡ placeAt i level v0 v1 ⌝ }
 {
-    let at = (i as u32) as f64;
+    let at = (i as i64) as f64;
     if v1 == v0 {
         at + 0.0
     } else {
@@ -88,7 +88,7 @@ fn crossing(
     level: f64,
     rising: bool,
 ) -> Mark
-    requires { ⌜ (a ≤ b) × (b < 2 ^ 32) × (start + b * step < length (now «data»)) ⌝ }
+    requires { ⌜ (a ≤ b) × (b ≤ 2 ^ 53) × (start + b * step < length (now «data»)) ⌝ }
     ensures { λ r. ⌜ r ≡ crossingOf (sample (now («data» .entry)) start step) rising level a (b - a) ⌝ }
 {
     let mut v0 = double_at(data, start, step, a);
@@ -133,7 +133,7 @@ pub(crate) fn rise_of(
     b: usize,
     minimum_amplitude: u8,
 ) -> Rise
-    requires { ⌜ (a ≤ b) × (b < 2 ^ 32) × (start + b * step < length (now «data»)) ⌝ }
+    requires { ⌜ (a ≤ b) × (b ≤ 2 ^ 53) × (start + b * step < length (now «data»)) ⌝ }
     ensures { λ r. ⌜ r ≡ riseOf «minimum_amplitude» (sample (now («data» .entry)) start step) a b ⌝ }
 {
     let va = sample_at(data, start, step, a);

@@ -206,7 +206,7 @@ fn next_on_line(
     pixel: f64,
     minimum_amplitude: u8,
 ) -> OnLine
-    requires { ⌜ (n ≤ 2 ^ 32) × (start + (n - 1) * step < length (now «data»)) ⌝ }
+    requires { ⌜ (n ≤ 2 ^ 53) × (start + (n - 1) * step < length (now «data»)) ⌝ }
     ensures { λ r. ⌜ lineSwings «minimum_amplitude» pixel (sample (now («data» .entry)) start step) n from
         ≡ saidOnLine «minimum_amplitude» pixel (sample (now («data» .entry)) start step) n r ⌝ }
 {

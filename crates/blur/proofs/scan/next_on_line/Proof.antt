@@ -58,7 +58,7 @@ rise-of-requires c κs =
     let s = c .before .before .before .before .before .before .before .before in
     let b = c .before .first .given .0 .1 .0 in
     let w = ran c .within in
-    let small : s .args .n ≤ 2 ^ 32 = s .pre .0 in
+    let small : s .args .n ≤ 2 ^ 53 = s .pre .0 in
     (omega arith, omega arith, sample-within (s .args .start) (s .args .step) {i = b} (w .2) (s .pre .1))
 
 enum-known-s : tie.Need-enum-known-s Inv-loop μ-loop

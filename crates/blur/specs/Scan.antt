@@ -41,6 +41,13 @@ abbrev pub slopeOf : Bool → Slope
 slopeOf true = Rising
 slopeOf false = Falling
 
+-- from sample i on, where it rises or falls, it goes on to sample r, and ends there
+pub record SlopeEnd (x : ℕ → ℕ) (last i : ℕ) (rising : Bool) (r : ℕ) : Type 0 where
+  pub from : i ≤ r
+  pub within : r ≤ last
+  pub same : (a : ℕ) → runsFrom x a (slopeOf rising) i (last - i) ≡ runsFrom x a (slopeOf rising) r (last - r)
+  pub ends : (a : ℕ) → runsFrom x a (slopeOf rising) r (last - r) ≡ record { first = a; last = r } ∷ runsUpTo x last r
+
 -- the runs that change by at least `least`
 unfoldable pub steep : ℕ → (ℕ → ℕ) → List Run → List Run
 steep least x [] = []

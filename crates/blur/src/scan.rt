@@ -8,7 +8,7 @@ ghost use Rattle.raster.specs.Lines.{Sides, lineCount};
 ghost use Rattle.blur.specs.Line.{sample, InCourse};
 ghost use Rattle.blur.specs.Runs.{stepOf, turnsAt};
 ghost use Rattle.blur.specs.Swings.{scaledBy, lineSwings};
-ghost use Rattle.blur.specs.Scan.{slopeOf, LevelTo, SlopeTo, RunTo, saidOnLine, lineOn, Open, Spots, raisedTo, widenedBy, Scans, begun};
+ghost use Rattle.blur.specs.Scan.{slopeOf, LevelTo, SlopeEnd, SlopeTo, RunTo, saidOnLine, lineOn, Open, Spots, raisedTo, widenedBy, Scans, begun};
 use crate::rises::Rise;
 use crate::rises::rise_of;
 use crate::rises::sample_at;
@@ -108,6 +108,32 @@ fn turns(rising: bool, v: u8, w: u8) -> bool
     if rising { w < v } else { v < w }
 }
 
+// Where a run ends that rises, or falls, up to sample `from`.
+fn slope_end(
+    data: &[u8],
+    start: usize,
+    step: usize,
+    last: usize,
+    from: usize,
+    rising: bool,
+) -> usize
+    requires { ⌜ (from ≤ last) × (start + last * step < length (now «data»)) ⌝ }
+    ensures { λ r. ⌜ SlopeEnd (sample (now («data» .entry)) start step) last from rising r ⌝ }
+{
+    let mut v = sample_at(data, start, step, from);
+    let mut at = from;
+    while at < last {
+        let next = at + 1;
+        let w = sample_at(data, start, step, next);
+        if turns(rising, v, w) {
+            return at;
+        }
+        v = w;
+        at = next;
+    }
+    at
+}
+
 // Whether a run is told: it turns, and changed enough.
 fn is_told(turns: bool, change: u8, least: u8) -> bool
     ensures { λ r. ⌜ r ≡ (not (ltb change least) && turns) ⌝ }
@@ -174,7 +200,8 @@ fn steep_run(
     NextRun::Of(a, at)
 }
 
-// The next run of a line, from the one that starts at sample a on, that changes by at least `least`; or the last one.
+// The next run of a line, from the one that starts at sample a on, that changes by at least `least`; or the last one. The first is
+// followed with branches, which are guessed well where runs are long or alike; past a small one there may be many more of them.
 fn next_run(data: &[u8], start: usize, step: usize, last: usize, a: usize, least: u8) -> NextRun
     requires { ⌜ (a < last) × (start + last * step < length (now «data»)) ⌝ }
     ensures { λ r. ⌜ RunTo (sample (now («data» .entry)) start step) least last a r ⌝ }
@@ -184,7 +211,16 @@ fn next_run(data: &[u8], start: usize, step: usize, last: usize, a: usize, least
         return NextRun::End;
     }
     let rising = sample_at(data, start, step, i) < sample_at(data, start, step, i + 1);
-    steep_run(data, start, step, last, a, i + 1, rising, least)
+    let b = slope_end(data, start, step, last, i + 1, rising);
+    if least
+        <= swing_of(
+            sample_at(data, start, step, a),
+            sample_at(data, start, step, b),
+        )
+    {
+        return NextRun::Of(a, b);
+    }
+    steep_run(data, start, step, last, a, b, rising, least)
 }
 
 fn scaled(s: Swing, pixel: f64) -> Swing

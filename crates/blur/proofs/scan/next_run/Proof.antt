@@ -1,22 +1,23 @@
--- `blur::scan::next_run` meets its contract: the run is level up to sample i, and from the next one on it rises or falls. Assumes nothing.
-use mathlib.Core.Path.{_∙_, ap}
-use Prim.Native.Nat.{ℕ, _+_, _≤_}
+-- `blur::scan::next_run` meets its contract: the run is level up to sample i, and from the next one on it rises or falls up to sample b. Assumes nothing.
+use mathlib.Core.Path.{_≡_, _∙_, ap}
+use Prim.Native.Nat.{ℕ, _+_, _-_, _<_}
 use native.Mathlib.Nat.{le-of-lt}
 use native.Mathlib.Omega.{arith}
 use borrow.Author.Needs.{needs}
 use lib.Dec.{ltb}
 use Rattle.blur.specs.Line.{sample}
+use Rattle.blur.specs.Runs.{runsFrom, runsUpTo}
 use Rattle.blur.specs.declared.scan.NextRun.{NextRun}
 use Rattle.blur.specs.declared.scan.NextRun.the-variants.{Of}
-use Rattle.blur.specs.Scan.{steep, runWithin, SlopeTo}
+use Rattle.blur.specs.Scan.{slopeOf, SlopeEnd, steep, runWithin, SlopeTo}
 use Rattle.blur.proofs.Line.{sample-within}
 use Rattle.blur.proofs.Runs.{level-last, level-slope}
 use Rattle.blur.proofs.scan.next_run.Statement.{statement}
 use Rattle.blur.proofs.scan.next_run.Tie as tie
 
-later : (a i last : ℕ) (r : NextRun) → a ≤ i → runWithin (i + 1) last r → runWithin (a + 1) last r
-later a i last (Of first b) h w = (w .0, omega (arith, w .1), w .2)
-later a i last NextRun.End h w = tt
+later : (a b last : ℕ) (r : NextRun) → a < b → runWithin b last r → runWithin (a + 1) last r
+later a b last (Of first d) h w = (w .0, omega (arith, w .1), w .2)
+later a b last NextRun.End h w = tt
 
 level-end-requires : tie.Need-level-end-requires
 level-end-requires c κs = search needs
@@ -41,24 +42,69 @@ sample-at-requires-2 c κs =
     let s = c .before .before .before .before in
     sample-within (s .args .start) (s .args .step) {i = c .before .before .level-end .result + 1} (omega arith) (s .pre .1)
 
-add-steep-run : tie.Need-add-steep-run
-add-steep-run c = search needs
+add-slope-end : tie.Need-add-slope-end
+add-slope-end c = search needs
 
-steep-run-requires : tie.Need-steep-run-requires
-steep-run-requires c κs = search needs
+slope-end-requires : tie.Need-slope-end-requires
+slope-end-requires c κs = search needs
+
+-- where the first run ends
+ended : (c : tie.After-slope-end) → let e = c .before .before .before .before in let a = e .before .before .args in let x = sample (a .«data» .now) (a .start) (a .step) in let i = e .level-end .result in
+    SlopeEnd x (a .last) (i + 1) (ltb (x i) (x (i + 1))) (c .slope-end .result)
+ended c = rw (c .before .before .sample-at .ensures, c .before .sample-at2 .ensures) at (c .slope-end .ensures)
+
+-- the line's runs, with the first one up to there
+begun : (c : tie.After-slope-end) → let e = c .before .before .before .before in let a = e .before .before .args in let x = sample (a .«data» .now) (a .start) (a .step) in let i = e .level-end .result in
+    runsUpTo x (a .last) (a .a) ≡ runsFrom x (a .a) (slopeOf (ltb (x i) (x (i + 1)))) (c .slope-end .result) (a .last - c .slope-end .result)
+begun c =
+    let l = c .before .before .before in
+    let e = l .before in
+    let a = e .before .before .args in
+    let v = e .level-end .ensures in
+    v .runs ∙ level-slope (sample (a .«data» .now) (a .start) (a .step)) (a .last) (a .a) (e .level-end .result) (l .if1 .left) (v .differs (l .if1 .left)) ∙ ended c .same (a .a)
+
+sample-at-requires-3 : tie.Need-sample-at-requires-3
+sample-at-requires-3 c κs = let s = c .before .before .before .before .before .before in sample-within (s .args .start) (s .args .step) (le-of-lt (s .pre .0)) (s .pre .1)
+
+sample-at-requires-4 : tie.Need-sample-at-requires-4
+sample-at-requires-4 c κs =
+    let s = c .before .before .before .before .before .before .before in
+    sample-within (s .args .start) (s .args .step) (c .before .slope-end .ensures .within) (s .pre .1)
+
+swing-of-requires : tie.Need-swing-of-requires
+swing-of-requires c κs = tt
 
 returns-2 : tie.Need-returns-2
 returns-2 c =
-    let d = c .before .before in
+    let b = c .before .before .before .before in
+    let e = b .before .before .before .before in
+    let a = e .before .before .args in
+    let x = sample (a .«data» .now) (a .start) (a .step) in
+    let s = ended b in
+    record {
+      runs = ap (steep (a .least) x) (begun b ∙ s .ends (a .a));
+      within = (omega (arith, e .level-end .ensures .from, s .from), omega (arith, e .level-end .ensures .from, s .from), s .within);
+    }
+
+steep-run-requires : tie.Need-steep-run-requires
+steep-run-requires c κs =
+    let b = c .before .before .before .before in
+    let e = b .before .before .before .before in
+    let s = ended b in
+    (omega (arith, e .level-end .ensures .from, s .from), s .within, e .before .before .pre .1)
+
+returns-3 : tie.Need-returns-3
+returns-3 c =
+    let b = c .before .before .before .before .before in
+    let d = b .before .before in
     let e = d .before .before in
     let a = e .before .before .args in
     let x = sample (a .«data» .now) (a .start) (a .step) in
     let i = e .level-end .result in
-    let v = e .level-end .ensures in
-    let slope : SlopeTo x (a .least) (a .last) (a .a) (i + 1) (ltb (x i) (x (i + 1))) (c .steep-run .result) = rw (d .sample-at .ensures, c .before .sample-at2 .ensures) at (c .steep-run .ensures) in
+    let slope : SlopeTo x (a .least) (a .last) (a .a) (b .slope-end .result) (ltb (x i) (x (i + 1))) (c .steep-run .result) = rw (d .sample-at .ensures, b .before .sample-at2 .ensures) at (c .steep-run .ensures) in
     record {
-      runs = ap (steep (a .least) x) (v .runs ∙ level-slope x (a .last) (a .a) i (d .before .if1 .left) (v .differs (d .before .if1 .left))) ∙ slope .runs;
-      within = later (a .a) i (a .last) (c .steep-run .result) (v .from) (slope .within);
+      runs = ap (steep (a .least) x) (begun b) ∙ slope .runs;
+      within = later (a .a) (b .slope-end .result) (a .last) (c .steep-run .result) (omega (arith, e .level-end .ensures .from, ended b .from)) (slope .within);
     }
 
 pub next-run-spec : {M : Type 1} → statement M
@@ -70,6 +116,11 @@ next-run-spec =
     sample-at-requires
     add-sample-at
     sample-at-requires-2
-    add-steep-run
+    add-slope-end
+    slope-end-requires
+    sample-at-requires-3
+    sample-at-requires-4
+    swing-of-requires
+    returns-2
     steep-run-requires
-    returns-2)
+    returns-3)

@@ -41,7 +41,7 @@ pub(crate) fn swing_of(va: u8, vb: u8) -> u8
     if va < vb { vb - va } else { va - vb }
 }
 
-fn amplitude(va: u8, vb: u8) -> i32
+pub(crate) fn amplitude(va: u8, vb: u8) -> i32
     ensures { λ r. ⌜ r ≡ pos vb -ℤ pos va ⌝ }
 {
     (vb as i32) - (va as i32)

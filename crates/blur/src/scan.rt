@@ -3,6 +3,8 @@ ghost use mathlib.Core.Path.{_≡_};
 ghost use mathlib.Core.Bool.{cond, not, _&&_};
 ghost use Prim.Native.Nat.{_+_, _-_, _*_, _≤_, _<_, _^_};
 ghost use lib.Dec.{ltb};
+ghost use lib.IntN.{pos, natAbs, _*ℤ_};
+ghost use lib.Signed.{ltZ};
 ghost use lib.ListN.{length};
 ghost use Rattle.raster.specs.Lines.{Sides, lineCount};
 ghost use Rattle.blur.specs.Line.{sample, InCourse};
@@ -10,6 +12,7 @@ ghost use Rattle.blur.specs.Runs.{stepOf, turnsAt};
 ghost use Rattle.blur.specs.Swings.{scaledBy, lineSwings};
 ghost use Rattle.blur.specs.Scan.{slopeOf, LevelTo, SlopeEnd, SlopeTo, RunTo, saidOnLine, lineOn, Open, Spots, raisedTo, widenedBy, Scans, begun};
 use crate::rises::Rise;
+use crate::rises::amplitude;
 use crate::rises::rise_of;
 use crate::rises::sample_at;
 use crate::rises::swing_of;
@@ -108,24 +111,25 @@ fn turns(rising: bool, v: u8, w: u8) -> bool
     if rising { w < v } else { v < w }
 }
 
-// Where a run ends that rises, or falls, up to sample `from`.
-fn slope_end(
-    data: &[u8],
-    start: usize,
-    step: usize,
-    last: usize,
-    from: usize,
-    rising: bool,
-) -> usize
-    requires { ⌜ (from ≤ last) × (start + last * step < length (now «data»)) ⌝ }
-    ensures { λ r. ⌜ SlopeEnd (sample (now («data» .entry)) start step) last from rising r ⌝ }
+// Whether a change goes against a slope. The product needs no look at which way the slope goes.
+fn opposes(slope: i32, change: i32) -> bool
+    requires { ⌜ (natAbs slope ≤ 255) × (natAbs change ≤ 255) ⌝ }
+    ensures { λ r. ⌜ r ≡ ltZ (slope *ℤ change) (pos 0) ⌝ }
+{
+    slope * change < 0
+}
+
+// Where a run ends that goes by this slope up to sample `from`.
+fn slope_end(data: &[u8], start: usize, step: usize, last: usize, from: usize, slope: i32) -> usize
+    requires { ⌜ (from ≤ last) × (start + last * step < length (now «data»)) × (natAbs slope ≤ 255) × (slope ≡ pos 0 → ⊥) ⌝ }
+    ensures { λ r. ⌜ SlopeEnd (sample (now («data» .entry)) start step) last from (ltZ (pos 0) slope) r ⌝ }
 {
     let mut v = sample_at(data, start, step, from);
     let mut at = from;
     while at < last {
         let next = at + 1;
         let w = sample_at(data, start, step, next);
-        if turns(rising, v, w) {
+        if opposes(slope, amplitude(v, w)) {
             return at;
         }
         v = w;
@@ -210,8 +214,11 @@ fn next_run(data: &[u8], start: usize, step: usize, last: usize, a: usize, least
     if last <= i {
         return NextRun::End;
     }
-    let rising = sample_at(data, start, step, i) < sample_at(data, start, step, i + 1);
-    let b = slope_end(data, start, step, last, i + 1, rising);
+    let slope = amplitude(
+        sample_at(data, start, step, i),
+        sample_at(data, start, step, i + 1),
+    );
+    let b = slope_end(data, start, step, last, i + 1, slope);
     if least
         <= swing_of(
             sample_at(data, start, step, a),
@@ -220,7 +227,7 @@ fn next_run(data: &[u8], start: usize, step: usize, last: usize, a: usize, least
     {
         return NextRun::Of(a, b);
     }
-    steep_run(data, start, step, last, a, b, rising, least)
+    steep_run(data, start, step, last, a, b, 0 < slope, least)
 }
 
 fn scaled(s: Swing, pixel: f64) -> Swing

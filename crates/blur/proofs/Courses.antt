@@ -19,22 +19,23 @@ use Rattle.numbers.proofs.Sum.{count-zero, count-next}
 use Rattle.raster.specs.declared.direction.RasterDirection4.{RasterDirection4}
 use Rattle.raster.specs.Lines.{lineCount, lineLength, placeStep}
 use Rattle.raster.proofs.Area.{area}
-use Rattle.blur.specs.declared.swings.Swing.{Swing}
-use Rattle.blur.specs.declared.scan.Course.{Course}
+use Rattle.swings.specs.declared.Swing.{Swing}
+use Rattle.swings.specs.declared.scan.Course.{Course}
 use Rattle.blur.specs.declared.length.LineLength.the-variants.{Nothing}
-use Rattle.blur.specs.Line.{linesOf, linesOn, firstLines, pixelOf, InCourse}
-use Rattle.blur.specs.Swings.{swings, swingsFrom}
-use Rattle.blur.specs.Scan.{swingsAt, rest, begun, Bytes}
+use Rattle.swings.specs.Line.{linesOf, linesOn, firstLines, pixelOf, InCourse}
+use Rattle.swings.specs.Swings.{swings, swingsFrom}
+use Rattle.swings.specs.Scan.{swingsAt, rest, begun, Bytes}
 use Rattle.blur.specs.Median.{lengthOf}
 use Rattle.blur.specs.Select.{Positive, Widths}
 use Rattle.blur.specs.Length.{lengthRefusal, tooLittle, lengthAlong, scanned, courseOf}
-use Rattle.blur.proofs.Count.{picture-count}
-use Rattle.blur.proofs.Small.{Small}
-use Rattle.blur.proofs.Positive.{AboveZero, of-above}
-use Rattle.blur.proofs.Each.{each-both}
-use Rattle.blur.proofs.Thinned.{thinned-few, thinned-each, thinned-length}
-use Rattle.blur.proofs.Above.{line-short, picture-above}
-use Rattle.blur.proofs.Width.{picture-small}
+use Rattle.swings.proofs.Count.{picture-count}
+use Rattle.swings.proofs.Small.{Small}
+use Rattle.swings.proofs.Positive.{AboveZero, of-above}
+use Rattle.swings.proofs.Each.{each-both}
+use Rattle.swings.proofs.Thinned.{thinned-few, thinned-each}
+use Rattle.swings.proofs.Above.{line-short, picture-above}
+use Rattle.swings.proofs.Width.{picture-small}
+use Rattle.blur.proofs.Thinned.{thinned-length}
 
 -- ---- refusals
 module _ (len w h stride lent : ℕ) where

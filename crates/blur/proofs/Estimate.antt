@@ -10,15 +10,16 @@ use lib.Ieee.{isNan}
 use lib.ListN.{length, take}
 use borrow.Author.Tests.{eq-eqb, ne-eqb}
 use Rattle.raster.specs.declared.direction.RasterDirection4.{RasterDirection4}
-use Rattle.blur.specs.declared.swings.Swing.{Swing}
-use Rattle.blur.specs.declared.scan.Scan.{Scan}
-use Rattle.blur.specs.declared.scan.Span.{Span}
+use Rattle.swings.specs.declared.Swing.{Swing}
+use Rattle.swings.specs.declared.scan.Scan.{Scan}
+use Rattle.swings.specs.declared.scan.Span.{Span}
 use Rattle.blur.specs.declared.select.Pass.{Pass}
 use Rattle.blur.specs.declared.length.LineLength.{LineLength}
 use Rattle.blur.specs.declared.length.LengthAnswer.{LengthAnswer}
 use Rattle.blur.specs.declared.length.LengthAnswer.the-variants.{Length, Refused}
-use Rattle.blur.specs.Scan.{rest, begun, Filled}
-use Rattle.blur.specs.Median.{strongest, lengthOf}
+use Rattle.swings.specs.Scan.{rest, begun, Filled}
+use Rattle.swings.specs.Swings.{strongest}
+use Rattle.blur.specs.Median.{lengthOf}
 use Rattle.blur.specs.Select.{Widths, started, Selectable}
 use Rattle.blur.specs.Length.{lengthRefusal, lengthAlong, lengthAnswer, courseOf, Estimated}
 use Rattle.blur.proofs.Spans.{span-numbers}

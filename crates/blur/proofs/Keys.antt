@@ -16,8 +16,9 @@ use lib.Ieee.Nearest.{div-mono}
 use lib.Ieee.Positive.{num, den, positive, den-pos, le→cross, cross→le}
 use lib.Ieee.Bits.{ofBits-toBits}
 use Rattle.blur.specs.Median.{sort}
-use Rattle.blur.specs.Select.{Each, Positive}
-use Rattle.blur.proofs.Each.{map-sort}
+use Rattle.swings.specs.Each.{Each}
+use Rattle.blur.specs.Select.{Positive}
+use Rattle.blur.proofs.Sorting.{map-sort}
 
 -- ---- the pattern of a magnitude of n smallest units, at p binary digits
 abbrev field : ℕ → ℕ → ℕ

@@ -9,8 +9,8 @@ use Rattle.raster.specs.Lines.{startCol, startRow}
 use Rattle.blur.specs.declared.length.LineLength.the-variants.{Found, Nothing}
 use Rattle.blur.specs.declared.length.LengthAnswer.{LengthAnswer}
 use Rattle.blur.specs.declared.length.LengthAnswer.the-variants.{Length, Refused}
-use Rattle.blur.specs.Rise.{levelOf, crossedAt, placeAt, crossingOf, riseBetween}
-use Rattle.blur.specs.Swings.{swingsFrom}
+use Rattle.swings.specs.Rise.{levelOf, crossedAt, placeAt, crossingOf, riseBetween}
+use Rattle.swings.specs.Swings.{swingsFrom}
 use Rattle.blur.specs.Length.{lengthAnswer}
 
 ramp : List ℕ

@@ -12,10 +12,11 @@ use lib.Seq.{getD-set-same, getD-set-other, take-suc}
 use lib.Ieee.{Float, binary64, toBits}
 use lib.Ieee.Bits.{toBits-lt}
 use borrow.Author.Tests.{eq-eqb, ne-eqb, eqb-true, eqb-false}
-use Rattle.blur.specs.declared.swings.Swing.{Swing}
+use Rattle.swings.specs.declared.Swing.{Swing}
 use Rattle.blur.specs.declared.select.Pass.{Pass}
 use Rattle.blur.specs.Median.{stays, kept}
-use Rattle.blur.specs.Select.{high, counted, passed, tallied, passAll, tallyAll, Each, Positive, Widths}
+use Rattle.swings.specs.Each.{Each}
+use Rattle.blur.specs.Select.{high, counted, passed, tallied, passAll, tallyAll, Positive, Widths}
 use Rattle.blur.proofs.Place.{bit, count}
 use Rattle.blur.proofs.Radix.{having}
 

@@ -10,8 +10,9 @@ use lib.Dec.{T, ltb, leb, ltb→lt, nltb→le, leb→le, nleb→lt}
 use lib.ListN.{length, getD}
 use borrow.Author.Tests.{lt-ltb, le-ltb}
 use Rattle.blur.specs.Median.{insert, sort}
-use Rattle.blur.specs.Select.{Each}
-use Rattle.blur.proofs.Each.{each-map, each-at, each-insert, length-sort}
+use Rattle.swings.specs.Each.{Each}
+use Rattle.swings.proofs.Each.{each-map, each-at}
+use Rattle.blur.proofs.Sorting.{each-insert, length-sort}
 
 abbrev pub bit : Bool → ℕ
 bit true = 1

@@ -8,8 +8,9 @@ use native.Mathlib.Omega.{arith}
 use lib.Dec.{T, ltb, eqb, ltb→lt, nltb→le}
 use lib.ListN.{length, getD}
 use borrow.Author.Tests.{lt-ltb, le-ltb, eq-eqb, ne-eqb, ltb-true, ltb-false}
-use Rattle.blur.specs.Select.{pickFrom, Each}
-use Rattle.blur.proofs.Each.{each-map}
+use Rattle.swings.specs.Each.{Each}
+use Rattle.blur.specs.Select.{pickFrom}
+use Rattle.swings.proofs.Each.{each-map}
 use Rattle.blur.proofs.Place.{bit, count, under, At, under-mono, under-none, count-le}
 
 -- how many keys have the part q above the unit u

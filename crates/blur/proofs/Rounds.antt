@@ -15,12 +15,14 @@ use lib.ListN.{length, getD, take, length-replicate, getD-replicate}
 use lib.Ieee.{binary64, toBits}
 use lib.Ieee.Bits.{toBits-lt}
 use borrow.Author.Tests.{eq-eqb, le-ltb, eqb-true, eqb-false, not-true}
-use Rattle.blur.specs.declared.swings.Swing.{Swing}
+use Rattle.swings.specs.declared.Swing.{Swing}
 use Rattle.blur.specs.declared.select.Pass.{Pass}
-use Rattle.blur.specs.Median.{stays, kept, strongest}
-use Rattle.blur.specs.Select.{passAll, tallyAll, pickFrom, wanted, reachOf, narrowed, zeros, round, Narrowable, Each, Widths, Selectable}
-use Rattle.blur.specs.Scan.{spanOf}
-use Rattle.blur.proofs.Each.{each-map}
+use Rattle.swings.specs.Swings.{strongest}
+use Rattle.blur.specs.Median.{stays, kept}
+use Rattle.swings.specs.Each.{Each}
+use Rattle.blur.specs.Select.{passAll, tallyAll, pickFrom, wanted, reachOf, narrowed, zeros, round, Narrowable, Widths, Selectable}
+use Rattle.swings.specs.Scan.{spanOf}
+use Rattle.swings.proofs.Each.{each-map}
 use Rattle.blur.proofs.Place.{count, count-le}
 use Rattle.blur.proofs.Spans.{span-fits, span-within}
 use Rattle.blur.proofs.Radix.{having, Narrowed, narrow-step, narrowed-start, narrowed-small}

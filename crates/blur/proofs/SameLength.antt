@@ -12,15 +12,15 @@ use Rattle.image.proofs.Refusal.{accepted}
 use Rattle.raster.specs.declared.direction.RasterDirection4.{RasterDirection4}
 use Rattle.raster.specs.Lines.{lineCount, colAt, rowAt}
 use Rattle.raster.proofs.Place.{one-line}
-use Rattle.blur.specs.declared.swings.Swing.{Swing}
+use Rattle.swings.specs.declared.Swing.{Swing}
 use Rattle.blur.specs.declared.length.LineLength.{LineLength}
 use Rattle.blur.specs.declared.length.LineLength.the-variants.{Nothing}
 use Rattle.blur.specs.declared.length.LengthAnswer.{LengthAnswer}
 use Rattle.blur.specs.declared.length.LengthAnswer.the-variants.{Length, Refused}
-use Rattle.blur.specs.Line.{linesOf, pixelOf}
+use Rattle.swings.specs.Line.{linesOf, pixelOf}
 use Rattle.blur.specs.Median.{lengthOf}
 use Rattle.blur.specs.Length.{tooLittle, lengthAlong, lengthRefusal, lengthAnswer}
-use Rattle.blur.proofs.SameSwings.{swings-same}
+use Rattle.swings.proofs.SameSwings.{swings-same}
 
 module _ (xs ys : List ℕ) {w h s t : ℕ} (l : Laid (length xs) w h s) (k : Laid (length ys) w h t) (same : (c r : ℕ) → c < w → r < h → pixel xs s c r ≡ pixel ys t c r) (d : RasterDirection4) (m a : ℕ) where
   along-same : lengthAlong xs w h s d m a ≡ lengthAlong ys w h t d m a

@@ -12,11 +12,13 @@ use lib.ListN.{length, getD, take, length-take}
 use lib.Ieee.{Float, nan, binary64, nanBits, toBits, ofBits}
 use lib.Ieee.Bits.{ofBits-toBits, nanBits-is}
 use borrow.Author.Tests.{eqb-false}
-use Rattle.blur.specs.declared.swings.Swing.{Swing}
+use Rattle.swings.specs.declared.Swing.{Swing}
 use Rattle.blur.specs.declared.select.Pass.{Pass}
 use Rattle.blur.specs.Median.{kept, sort, median, lengthFrom, lengthOf}
-use Rattle.blur.specs.Select.{high, passed, tallied, passAll, tallyAll, zeros, answered, Countable, Countables, Each, Positive, Widths}
-use Rattle.blur.proofs.Each.{each-take, each-at, median-each}
+use Rattle.swings.specs.Each.{Each}
+use Rattle.blur.specs.Select.{high, passed, tallied, passAll, tallyAll, zeros, answered, Countable, Countables, Positive, Widths}
+use Rattle.swings.proofs.Each.{each-take, each-at}
+use Rattle.blur.proofs.Sorting.{median-each}
 use Rattle.blur.proofs.Place.{count-le, at-sorted}
 use Rattle.blur.proofs.Keys.{bits-at}
 use Rattle.blur.proofs.Spans.{positive-number}

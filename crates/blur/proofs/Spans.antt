@@ -1,24 +1,20 @@
 -- What the widths of a list lie between, by the order of their keys.
 use mathlib.Core.Path.{_≡_, refl}
 use mathlib.Core.Bool.{Bool, true, false, not, cond}
-use mathlib.Core.List.{List, [], _∷_, _++_}
+use mathlib.Core.List.{List, [], _∷_}
 use Prim.Native.Nat.{ℕ, _*_, _≤_}
 use native.Mathlib.Nat.{le-refl, le-trans}
 use lib.Dec.{T}
 use lib.Ieee.{Float, nan, inf, fin, binary64, fits, ofBits, isNan, toBits, lt, le}
 use lib.Ieee.Positive.{num, den, positive, cross→le}
 use borrow.Author.Tests.{ltb-false}
-use Rattle.blur.specs.declared.swings.Swing.{Swing}
-use Rattle.blur.specs.declared.scan.Span.{Span}
-use Rattle.blur.specs.Scan.{lesser, greater, widenedBy, spanFrom, spanOf}
-use Rattle.blur.specs.Select.{Each, Positive, Widths}
-use Rattle.blur.proofs.Each.{each-map}
+use Rattle.swings.specs.declared.Swing.{Swing}
+use Rattle.swings.specs.declared.scan.Span.{Span}
+use Rattle.swings.specs.Scan.{lesser, greater, widenedBy, spanFrom, spanOf}
+use Rattle.swings.specs.Each.{Each}
+use Rattle.blur.specs.Select.{Positive, Widths}
+use Rattle.swings.proofs.Each.{each-map}
 use Rattle.blur.proofs.Keys.{bits-mono}
-
--- one width more: the list so far has its span, and `widened` takes in the next
-pub span-snoc : (span : Span) (l : List Swing) (s : Swing) → spanFrom span (l ++ (s ∷ [])) ≡ widenedBy (spanFrom span l) (s .width)
-span-snoc span [] s = refl
-span-snoc span (t ∷ l) s = span-snoc (widenedBy span (t .width)) l s
 
 abbrev key : Float → ℕ
 key x = toBits binary64 x

@@ -15,7 +15,7 @@ use mir.Syntax.{w32, w64}
 use mir.Val.{SFits, toZ, ofZ}
 use mir.ValLaws.{toZ-ofZ}
 use borrow.Author.Tests.{lt-ltb, le-ltb, eq-eqb, ne-eqb, not-true, not-false}
-use Rattle.blur.specs.declared.swings.Swing.{Swing}
+use Rattle.swings.specs.declared.Swing.{Swing}
 use Rattle.blur.specs.declared.select.Pass.{Pass}
 use Rattle.blur.specs.declared.select.Chosen.{Chosen}
 use Rattle.blur.specs.Median.{stays}
@@ -75,9 +75,6 @@ unfolding zeros
 narrows a cs behind o p prefix reach shift kept e f g h i j k n = record { state = rw (i, j, f, e, h, g) refl; counts = k ∙ ap (λ (m : ℕ). replicate m 0) n }
 
 -- ---- signed numbers
-pub test-of : (t : Bool) (a b : ℤ) → SFits w32 a → SFits w32 b → leZ (toZ w32 (ofZ w32 a)) (toZ w32 (ofZ w32 b)) ≡ t → leZ a b ≡ t
-test-of t a b f g h = rw (toZ-ofZ w32 a f, toZ-ofZ w32 b g) at h
-
 pub stays-of : (z top : ℤ) → SFits w32 z → SFits w32 top → leZ (toZ w32 (ofZ w32 top)) (pos 2 *ℤ toZ w32 (ofZ w32 z)) ≡ leZ top (pos 2 *ℤ z)
 stays-of z top f g = rw (toZ-ofZ w32 top g, toZ-ofZ w32 z f) refl
 

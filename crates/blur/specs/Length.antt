@@ -8,15 +8,15 @@ use lib.ListN.{length}
 use Rattle.image.specs.Refusal.{layoutRefusal, firstRefusal}
 use Rattle.raster.specs.declared.direction.RasterDirection4.{RasterDirection4}
 use Rattle.raster.specs.Lines.{lineCount, placeStep}
-use Rattle.blur.specs.declared.swings.Swing.{Swing}
-use Rattle.blur.specs.declared.scan.Course.{Course}
+use Rattle.swings.specs.declared.Swing.{Swing}
+use Rattle.swings.specs.declared.scan.Course.{Course}
 use Rattle.blur.specs.declared.length.LineLengthConfig.{LineLengthConfig}
 use Rattle.blur.specs.declared.length.LineLength.{LineLength}
 use Rattle.blur.specs.declared.length.LineLength.the-variants.{Nothing}
 use Rattle.blur.specs.declared.length.LengthAnswer.{LengthAnswer}
 use Rattle.blur.specs.declared.length.LengthAnswer.the-variants.{Length, Refused}
-use Rattle.blur.specs.Line.{linesOf, pixelOf}
-use Rattle.blur.specs.Swings.{swings}
+use Rattle.swings.specs.Line.{linesOf, pixelOf}
+use Rattle.swings.specs.Swings.{swings}
 use Rattle.blur.specs.Median.{lengthOf}
 
 -- "The default thresholds are 8 and 24."

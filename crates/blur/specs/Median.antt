@@ -8,18 +8,10 @@ use lib.IntN.{ℤ, pos, _*ℤ_}
 use lib.Signed.{leZ}
 use lib.ListN.{length, getD}
 use lib.Ieee.{Float, nan, binary64, ofBits, div, le}
-use Rattle.blur.specs.declared.swings.Swing.{Swing}
+use Rattle.swings.specs.declared.Swing.{Swing}
+use Rattle.swings.specs.Swings.{strongest}
 use Rattle.blur.specs.declared.length.LineLength.{LineLength}
 use Rattle.blur.specs.declared.length.LineLength.the-variants.{Found, Nothing}
-
--- the larger of two swings
-abbrev pub larger : ℤ → ℤ → ℤ
-larger a b = cond (leZ a b) b a
-
--- the strongest swing, and 0 where there is none
-abbrev pub strongest : List Swing → ℤ
-strongest [] = pos 0
-strongest (s ∷ l) = larger (s .swing) (strongest l)
 
 -- "Swings of at least half the strongest stay."
 abbrev pub stays : ℤ → Swing → Bool

@@ -8,14 +8,16 @@ use lib.IntN.{ℤ, pos}
 use lib.ListN.{length, getD, set, take, replicate}
 use lib.Ieee.{Format, Float, binary64, fits, isNan, toBits, ofBits, lt, div}
 use lib.Ieee.Positive.{positive}
-use Rattle.blur.specs.declared.swings.Swing.{Swing}
+use Rattle.swings.specs.declared.Swing.{Swing}
 use Rattle.blur.specs.declared.length.LineLength.{LineLength}
 use Rattle.blur.specs.declared.length.LineLength.the-variants.{Found, Nothing}
 use Rattle.blur.specs.declared.select.Pass.{Pass}
 use Rattle.blur.specs.declared.select.Chosen.{Chosen}
-use Rattle.blur.specs.declared.scan.Span.{Span}
-use Rattle.blur.specs.Scan.{spanOf}
-use Rattle.blur.specs.Median.{strongest, stays, sixTenths}
+use Rattle.swings.specs.declared.scan.Span.{Span}
+use Rattle.swings.specs.Each.{Each}
+use Rattle.swings.specs.Scan.{spanOf}
+use Rattle.swings.specs.Swings.{strongest}
+use Rattle.blur.specs.Median.{stays, sixTenths}
 
 -- ---- one record's step in a pass
 
@@ -122,11 +124,6 @@ answered a minimum =
     cond (eqb (a .kept) 0 || ltb (a .kept) minimum) Nothing (Found (div binary64 (ofBits binary64 (a .prefix)) sixTenths))
 
 -- ---- what the steps ask for
-
--- a fact of each element of a list
-abbrev pub Each : {A : Type 0} → (A → Type 0) → List A → Type 0
-Each P [] = Unit {0}
-Each P (x ∷ l) = P x × Each P l
 
 -- a width as the selection takes it: finite, above zero, and a value of the format
 pub record Positive (f : Format) (x : Float) : Type 0 where

@@ -2,19 +2,19 @@
 ghost use mathlib.Core.Path.{_≡_};
 ghost use mathlib.Core.Bool.{_||_};
 ghost use lib.Dec.{eqb, ltb};
-ghost use Rattle.blur.specs.Line.{pixelOf};
+ghost use Rattle.swings.specs.Line.{pixelOf};
 ghost use Rattle.blur.specs.Length.{lengthRefusal, tooLittle, courseOf, defaults, Estimated};
 ghost use Rattle.raster.specs.Direction.{fromAngle};
-use crate::scan::Course;
-use crate::scan::begin;
+use crate::records::select;
 use crate::select::opened;
-use crate::swings::Swing;
-use crate::swings::fill;
-use crate::swings::select;
 use image::layout_refusal;
 use raster::direction::RasterDirection4;
 use raster::lines::line_count;
 use raster::lines::place_step;
+use swings::Swing;
+use swings::fill;
+use swings::scan::Course;
+use swings::scan::begin;
 
 // The smear's length, or nothing to tell it by.
 pub enum LineLength {

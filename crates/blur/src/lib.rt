@@ -1,9 +1,7 @@
 // Measuring the smear of a picture: its direction and its length.
 pub mod length;
-mod rises;
-mod scan;
+mod records;
 mod select;
-pub mod swings;
 
 pub use length::estimate_line_length;
 pub use length::estimate_line_length_with;

@@ -4,8 +4,8 @@
 // where the least and the greatest width share its digit and those above: there every count would wait for the one before.
 use crate::length::LengthAnswer;
 use crate::length::LineLength;
-use crate::scan::Scan;
-use crate::swings::Swing;
+use swings::Swing;
+use swings::scan::Scan;
 ghost use mathlib.Core.Path.{_≡_};
 ghost use mathlib.Core.Bool.{cond, not, _&&_};
 ghost use Prim.Native.Nat.{_/_, _^_, _-_, _<_};
@@ -14,8 +14,6 @@ ghost use lib.IntN.{pos, _*ℤ_};
 ghost use lib.Signed.{leZ};
 ghost use lib.ListN.{length, replicate};
 ghost use lib.Ieee.{binary64, isNan, nanBits, toBits};
-ghost use Rattle.blur.specs.Median.{larger};
-ghost use Rattle.blur.specs.Scan.{lesser, greater};
 ghost use Rattle.blur.specs.Select.{pickFrom, wanted, keptOf, prefixOf, reachOf, started, answered, Countable, Tallied, Narrowable, Narrows};
 
 // A pass over the first `reach` of `total` records, with `left` digits to find: `count` records were counted so far, of those
@@ -38,24 +36,6 @@ pub struct Pass {
 pub struct Chosen {
     pub digit: usize,
     pub place: u32,
-}
-
-pub fn stronger(a: i32, b: i32) -> i32
-    ensures { λ r. ⌜ r ≡ larger a b ⌝ }
-{
-    if a <= b { b } else { a }
-}
-
-pub fn narrower(a: f64, b: f64) -> f64
-    ensures { λ r. ⌜ r ≡ lesser a b ⌝ }
-{
-    if b < a { b } else { a }
-}
-
-pub fn wider(a: f64, b: f64) -> f64
-    ensures { λ r. ⌜ r ≡ greater a b ⌝ }
-{
-    if a < b { b } else { a }
 }
 
 fn stays(swing: i32, strongest: i32) -> bool

@@ -17,7 +17,7 @@ use Rattle.tensor.specs.Tensor.{directionAnswer}
 use Rattle.blur.specs.declared.length.LengthAnswer.{LengthAnswer}
 use Rattle.blur.specs.declared.length.LengthAnswer.the-variants as length-answer
 use Rattle.blur.specs.declared.length.LineLength.{LineLength}
-use Rattle.blur.specs.declared.swings.Swing.{Swing}
+use Rattle.swings.specs.declared.Swing.{Swing}
 use Rattle.tensor.specs.declared.direction.DirectionEstimate.{DirectionEstimate}
 use Rattle.tensor.specs.declared.direction.DirectionAnswer.the-variants as direction-answer
 use Rattle.tensor.proofs.Answer.{answer-taken}

@@ -12,9 +12,9 @@ use Rattle.image.specs.Refusal.{layoutRefusal, pairRefusal}
 use Rattle.raster.specs.Lines.{startCol, startRow}
 use Rattle.raster.specs.declared.border.LineBorderMode.the-variants.{Replicate}
 use Rattle.raster.specs.declared.direction.RasterDirection4.the-variants.{Vertical}
-use Rattle.blur.specs.Rise.{levelOf, crossedAt, placeAt, crossingOf, riseBetween, riseOf}
-use Rattle.blur.specs.Runs.{runsFrom, runsAfter}
-use Rattle.blur.specs.Swings.{swingsOf, lineSwings, swingsFrom}
+use Rattle.swings.specs.Rise.{levelOf, crossedAt, placeAt, crossingOf, riseBetween, riseOf}
+use Rattle.swings.specs.Runs.{runsFrom, runsAfter}
+use Rattle.swings.specs.Swings.{swingsOf, lineSwings, swingsFrom}
 use Rattle.tensor.specs.Tensor.{gradientX, gradientY, rowSum, interiorSum, tensorSums, tensorDirection, estimateOf}
 use Rattle.job.specs.declared.JobAnswer.the-variants.{Done, Refused}
 use Rattle.job.specs.Job.{Job, settingsRefusal, jobRefusal, pictureDirection, jobDirection, plan}

@@ -32,7 +32,7 @@ use Rattle.numbers.specs.Scalar.{clampByte}
 use Rattle.numbers.specs.Written.{pixels}
 use Rattle.floats.specs.Factor.{roundedQ16}
 use Rattle.image.specs.Picture.{pixel}
-use Rattle.blur.specs.declared.swings.Swing.{Swing}
+use Rattle.swings.specs.declared.Swing.{Swing}
 use Rattle.deblur.specs.Calls.{Estimated}
 use Rattle.deblur.specs.Refusal.{estimateRefusal}
 use Rattle.deblur.specs.Settings.{restorationOf}

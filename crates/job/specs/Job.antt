@@ -23,7 +23,7 @@ use Rattle.blur.specs.Length.{lengthAlong}
 use Rattle.tensor.specs.Tensor.{tensorSums, estimateOf}
 use Rattle.blur.specs.declared.length.LineLength.{LineLength}
 use Rattle.blur.specs.declared.length.LineLength.the-variants.{Found, Nothing}
-use Rattle.blur.specs.declared.swings.Swing.{Swing}
+use Rattle.swings.specs.declared.Swing.{Swing}
 use Rattle.deblur.specs.Picture.{estimate}
 use Rattle.deblur.specs.Refusal.{factorTaken, scratchShort, inOrder}
 use Rattle.deblur.specs.declared.LineFilter.the-variants.{Restoration}

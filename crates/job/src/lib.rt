@@ -4,9 +4,9 @@ ghost use Rattle.job.specs.Job.{jobDefault, Restored};
 use crate::finish::finish;
 use crate::plan::start_job;
 use blur::length::estimate_along;
-use blur::swings::Swing;
 use raster::border::LineBorderMode;
 use raster::direction::RasterDirection4;
+use swings::Swing;
 
 mod finish;
 mod plan;

@@ -5,7 +5,7 @@ ghost use Rattle.smear_c.specs.Length.{lengthResult, lengthOut, LengthRe
 use blur::length::LengthAnswer;
 use blur::length::LineLength;
 use blur::length::estimate_at;
-use blur::swings::Swing;
+use swings::Swing;
 
 // An answer as C has it: the result, and the length, 0.0 for Nothing.
 fn return_length(answer: LengthAnswer, length: &mut f64) -> u8

@@ -3,9 +3,9 @@ ghost use mathlib.Core.Path.{_≡_};
 ghost use Rattle.job.specs.Job.{Restored};
 ghost use Rattle.smear_c.specs.WholeJob.{jobConfig, JobGiven, JobCalled};
 use crate::restoration::border_of;
-use blur::swings::Swing;
 use job::JobAnswer;
 use job::JobConfig;
+use swings::Swing;
 
 fn job_config(
     minimum_transitions: usize,

@@ -12,7 +12,7 @@ use lib.Ieee.{Float}
 use lib.ListN.{length}
 use Rattle.numbers.specs.Written.{Painted}
 use Rattle.raster.specs.Direction.{fromAngle}
-use Rattle.blur.specs.declared.swings.Swing.{Swing}
+use Rattle.swings.specs.declared.Swing.{Swing}
 use Rattle.deblur.specs.Calls as calls
 use Rattle.deblur.specs.Settings.{restorationOf, unsharpOf}
 use Rattle.deblur.specs.declared.LineSettings.{LineSettings}

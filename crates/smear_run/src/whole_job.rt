@@ -6,11 +6,11 @@ ghost use Rattle.smear_run.specs.Stage.{wholeJobConfig, wholeJob, jobRes
 ghost use Rattle.smear_run.specs.Parts.{Measured, Filtered};
 use crate::filters::FilterAnswer;
 use crate::filters::used;
-use blur::swings::Swing;
 use job::JobAnswer;
 use job::JobConfig;
 use job::JobResult;
 use record::Record;
+use swings::Swing;
 
 // The job on a tight picture of at most 4,096 pixels; `none` stands where no swing is written. On the stack: 4,096 records, 65,536 bytes,
 // and 32,768 of `blur`'s counts.

@@ -24,8 +24,8 @@ use Rattle.raster.specs.declared.direction.RasterDirection4.{RasterDirection4}
 use Rattle.raster.specs.declared.direction.RasterDirection4.the-variants.{Horizontal, DownRight}
 use Rattle.line.specs.Line.{sample, window, mean, stepped, after}
 use Rattle.blur.specs.Length.{lengthAnswer}
-use Rattle.blur.specs.Rise.{levelOf, crossedAt, placeAt, crossingOf, riseBetween}
-use Rattle.blur.specs.Swings.{swingsFrom}
+use Rattle.swings.specs.Rise.{levelOf, crossedAt, placeAt, crossingOf, riseBetween}
+use Rattle.swings.specs.Swings.{swingsFrom}
 use Rattle.tensor.specs.Tensor.{gradientX, gradientY, rowSum, interiorSum, tensorSums, tensorDirection, estimateOf}
 use Rattle.blur.specs.declared.length.LengthAnswer.{LengthAnswer}
 use Rattle.blur.specs.declared.length.LengthAnswer.the-variants.{Length}

@@ -4,7 +4,7 @@ ghost use Rattle.raster.specs.Direction.{fromAngle};
 ghost use Rattle.blur.specs.Length.{lengthAnswer};
 use blur::length::LengthAnswer;
 use blur::length::estimate_at;
-use blur::swings::Swing;
+use swings::Swing;
 
 // The length of a picture of at most 256 pixels. Its contract says nothing of the records, so whoever calls it needs no walk.
 pub(crate) fn length_at(

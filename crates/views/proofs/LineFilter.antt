@@ -41,7 +41,7 @@ use denote.Exit.{yes}
 use denote.Triple.Clauses.{AtExit, atExit, closing, ensured, lasts}
 use denote.Struct.Laws as LL
 use denote.Enum.Laws as EL
-use Rattle.blur.proofs.Walk.Free.{frees-all}
+use Rattle.swings.proofs.Walk.Free.{frees-all}
 use Rattle.image.specs.declared.view.Gray8View.{Gray8View}
 use Rattle.image.proofs.view.Gray8View as T0
 use Rattle.image.proofs.view.Gray8View.Laws as T0′

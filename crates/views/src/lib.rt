@@ -10,7 +10,6 @@ ghost use Rattle.sharpen.specs.Call.{Sharpened};
 ghost use Rattle.views.specs.Pictures.{into, over};
 use blur::length::LengthAnswer;
 use blur::length::LineLengthConfig;
-use blur::swings::Swing;
 use deblur::DirectionalUnsharpConfig;
 use deblur::RestorationAnswer;
 use deblur::VanCittertConfig;
@@ -19,6 +18,7 @@ use image::Gray8ViewMut;
 use job::JobAnswer;
 use job::JobConfig;
 use sharpen::SharpenAnswer;
+use swings::Swing;
 use tensor::direction::DirectionAnswer;
 
 pub fn estimate_line_direction<'a>(src: Gray8View<'a>) -> DirectionAnswer

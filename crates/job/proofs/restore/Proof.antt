@@ -43,10 +43,10 @@ use Rattle.raster.proofs.direction.RasterDirection4 as D
 use Rattle.raster.proofs.direction.RasterDirection4.Laws as D′
 use Rattle.blur.specs.Length.{Estimated}
 use Rattle.blur.specs.declared.length.LengthAnswer.{LengthAnswer}
-use Rattle.blur.specs.declared.swings.Swing.{Swing}
-use Rattle.blur.proofs.Walk.Call.{stating, answers}
-use Rattle.blur.proofs.Walk.Free.{frees-all}
-use Rattle.blur.proofs.swings.Swing as S
+use Rattle.swings.specs.declared.Swing.{Swing}
+use Rattle.swings.proofs.Walk.Call.{stating, answers}
+use Rattle.swings.proofs.Walk.Free.{frees-all}
+use Rattle.swings.proofs.Swing as S
 use Rattle.blur.proofs.length.LengthAnswer as R
 use Rattle.blur.proofs.length.LengthAnswer.Laws as R′
 use Rattle.blur.proofs.length.estimate_along as along

@@ -42,7 +42,7 @@ use denote.Exit.{yes}
 use denote.Triple.Clauses.{ensured, lasts}
 use denote.Struct.Laws as LL
 use denote.Enum.Laws as EL
-use Rattle.blur.proofs.Walk.Free.{frees-all}
+use Rattle.swings.proofs.Walk.Free.{frees-all}
 use Rattle.tensor.specs.Tensor.{directionAnswer}
 use Rattle.image.specs.declared.view.Gray8View.{Gray8View}
 use Rattle.image.proofs.view.Gray8View as T0

@@ -44,16 +44,16 @@ use denote.Exit.{yes}
 use denote.Triple.Clauses.{ensured, lasts}
 use denote.Struct.Laws as LL
 use denote.Enum.Laws as EL
-use Rattle.blur.proofs.Walk.Free.{frees-all}
+use Rattle.swings.proofs.Walk.Free.{frees-all}
 use Rattle.blur.specs.Length.{Estimated as Measured}
 use Rattle.blur.specs.Length.{defaults}
 use Rattle.raster.specs.Direction.{fromAngle}
 use Rattle.image.specs.declared.view.Gray8View.{Gray8View}
 use Rattle.image.proofs.view.Gray8View as T0
 use Rattle.image.proofs.view.Gray8View.Laws as T0′
-use Rattle.blur.specs.declared.swings.Swing.{Swing}
-use Rattle.blur.proofs.swings.Swing as T1
-use Rattle.blur.proofs.swings.Swing.Laws as T1′
+use Rattle.swings.specs.declared.Swing.{Swing}
+use Rattle.swings.proofs.Swing as T1
+use Rattle.swings.proofs.Swing.Laws as T1′
 use Rattle.blur.specs.declared.length.LengthAnswer.{LengthAnswer}
 use Rattle.blur.proofs.length.LengthAnswer as T2
 use Rattle.blur.proofs.length.LengthAnswer.Laws as T2′

@@ -44,7 +44,7 @@ use denote.Exit.{yes}
 use denote.Triple.Clauses.{ensured, lasts}
 use denote.Struct.Laws as LL
 use denote.Enum.Laws as EL
-use Rattle.blur.proofs.Walk.Free.{frees-all}
+use Rattle.swings.proofs.Walk.Free.{frees-all}
 use Rattle.blur.specs.Length.{Estimated as Measured}
 use Rattle.raster.specs.Direction.{fromAngle}
 use Rattle.image.specs.declared.view.Gray8View.{Gray8View}
@@ -53,9 +53,9 @@ use Rattle.image.proofs.view.Gray8View.Laws as T0′
 use Rattle.blur.specs.declared.length.LineLengthConfig.{LineLengthConfig}
 use Rattle.blur.proofs.length.LineLengthConfig as T1
 use Rattle.blur.proofs.length.LineLengthConfig.Laws as T1′
-use Rattle.blur.specs.declared.swings.Swing.{Swing}
-use Rattle.blur.proofs.swings.Swing as T2
-use Rattle.blur.proofs.swings.Swing.Laws as T2′
+use Rattle.swings.specs.declared.Swing.{Swing}
+use Rattle.swings.proofs.Swing as T2
+use Rattle.swings.proofs.Swing.Laws as T2′
 use Rattle.blur.specs.declared.length.LengthAnswer.{LengthAnswer}
 use Rattle.blur.proofs.length.LengthAnswer as T3
 use Rattle.blur.proofs.length.LengthAnswer.Laws as T3′

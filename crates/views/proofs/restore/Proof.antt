@@ -43,7 +43,7 @@ use denote.Exit.{yes}
 use denote.Triple.Clauses.{ensured, lasts}
 use denote.Struct.Laws as LL
 use denote.Enum.Laws as EL
-use Rattle.blur.proofs.Walk.Free.{frees-all}
+use Rattle.swings.proofs.Walk.Free.{frees-all}
 use Rattle.job.specs.Job.{Restored}
 use Rattle.image.specs.declared.view.Gray8View.{Gray8View}
 use Rattle.image.proofs.view.Gray8View as T0
@@ -54,9 +54,9 @@ use Rattle.image.proofs.view.Gray8ViewMut.Laws as T1′
 use Rattle.job.specs.declared.JobConfig.{JobConfig}
 use Rattle.job.proofs.JobConfig as T2
 use Rattle.job.proofs.JobConfig.Laws as T2′
-use Rattle.blur.specs.declared.swings.Swing.{Swing}
-use Rattle.blur.proofs.swings.Swing as T3
-use Rattle.blur.proofs.swings.Swing.Laws as T3′
+use Rattle.swings.specs.declared.Swing.{Swing}
+use Rattle.swings.proofs.Swing as T3
+use Rattle.swings.proofs.Swing.Laws as T3′
 use Rattle.job.specs.declared.JobAnswer.{JobAnswer}
 use Rattle.job.proofs.JobAnswer as T4
 use Rattle.job.proofs.JobAnswer.Laws as T4′

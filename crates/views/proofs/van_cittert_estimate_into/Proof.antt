@@ -42,7 +42,7 @@ use denote.Exit.{yes}
 use denote.Triple.Clauses.{ensured, lasts}
 use denote.Struct.Laws as LL
 use denote.Enum.Laws as EL
-use Rattle.blur.proofs.Walk.Free.{frees-all}
+use Rattle.swings.proofs.Walk.Free.{frees-all}
 use Rattle.deblur.specs.Calls.{Estimated}
 use Rattle.deblur.specs.Settings.{restorationOf}
 use Rattle.image.specs.declared.view.Gray8View.{Gray8View}

@@ -48,42 +48,42 @@ use denote.Exit.{yes}
 use Rattle.raster.specs.declared.direction.RasterDirection4.{RasterDirection4}
 use Rattle.raster.proofs.direction.RasterDirection4 as D
 use Rattle.raster.proofs.direction.RasterDirection4.Laws as D′
-use Rattle.blur.specs.Line.{InCourse}
-use Rattle.blur.specs.Scan.{rest, begun, Filled}
+use Rattle.swings.specs.Line.{InCourse}
+use Rattle.swings.specs.Scan.{rest, begun, Filled}
 use Rattle.blur.specs.Median.{lengthOf}
 use Rattle.blur.specs.Select.{started, Selectable}
 use Rattle.blur.specs.Length.{lengthRefusal, courseOf, Estimated}
-use Rattle.blur.specs.declared.swings.Swing.{Swing}
-use Rattle.blur.specs.declared.scan.Course.{Course}
-use Rattle.blur.specs.declared.scan.Scan.{Scan}
-use Rattle.blur.specs.declared.scan.Scanned.{Scanned}
+use Rattle.swings.specs.declared.Swing.{Swing}
+use Rattle.swings.specs.declared.scan.Course.{Course}
+use Rattle.swings.specs.declared.scan.Scan.{Scan}
+use Rattle.swings.specs.declared.scan.Scanned.{Scanned}
 use Rattle.blur.specs.declared.select.Pass.{Pass}
 use Rattle.blur.specs.declared.length.LengthAnswer.{LengthAnswer}
 use Rattle.blur.specs.declared.length.LengthAnswer.the-variants.{Length, Refused}
-use Rattle.blur.proofs.swings.Swing as S
-use Rattle.blur.proofs.scan.Course as Q
-use Rattle.blur.proofs.scan.Course.Laws as Q′
-use Rattle.blur.proofs.scan.Scan as N
-use Rattle.blur.proofs.scan.Scan.Laws as N′
-use Rattle.blur.proofs.scan.Scanned as O
-use Rattle.blur.proofs.scan.Scanned.Laws as O′
+use Rattle.swings.proofs.Swing as S
+use Rattle.swings.proofs.scan.Course as Q
+use Rattle.swings.proofs.scan.Course.Laws as Q′
+use Rattle.swings.proofs.scan.Scan as N
+use Rattle.swings.proofs.scan.Scan.Laws as N′
+use Rattle.swings.proofs.scan.Scanned as O
+use Rattle.swings.proofs.scan.Scanned.Laws as O′
 use Rattle.blur.proofs.select.Pass as P
 use Rattle.blur.proofs.select.Pass.Laws as P′
 use Rattle.blur.proofs.length.LengthAnswer as R
 use Rattle.blur.proofs.length.LengthAnswer.Laws as R′
 use Rattle.blur.proofs.Courses.{in-course}
 use Rattle.blur.proofs.Estimate.{estimated-refused, some-lent, all-lent, within-lent, numbers, selectable, estimated-length}
-use Rattle.blur.proofs.Walk.Call.{stating, answers}
-use Rattle.blur.proofs.Walk.Free.{frees-all}
-use Rattle.blur.proofs.Walk.Lend.{lends, ends-loan, shares-out, ends-share}
-use Rattle.blur.proofs.swings.fill as fill
-use Rattle.blur.proofs.swings.fill.Symbol as fill-def
-use Rattle.blur.proofs.swings.fill.Symbol.{name as #fill}
-use Rattle.blur.proofs.swings.fill.Met as fill-thm
-use Rattle.blur.proofs.swings.select as select
-use Rattle.blur.proofs.swings.select.Symbol as select-def
-use Rattle.blur.proofs.swings.select.Symbol.{name as #select}
-use Rattle.blur.proofs.swings.select.Met as select-thm
+use Rattle.swings.proofs.Walk.Call.{stating, answers}
+use Rattle.swings.proofs.Walk.Free.{frees-all}
+use Rattle.swings.proofs.Walk.Lend.{lends, ends-loan, shares-out, ends-share}
+use Rattle.swings.proofs.fill as fill
+use Rattle.swings.proofs.fill.Symbol as fill-def
+use Rattle.swings.proofs.fill.Symbol.{name as #fill}
+use Rattle.swings.proofs.fill.Met as fill-thm
+use Rattle.blur.proofs.records.select as select
+use Rattle.blur.proofs.records.select.Symbol as select-def
+use Rattle.blur.proofs.records.select.Symbol.{name as #select}
+use Rattle.blur.proofs.records.select.Met as select-thm
 use Rattle.blur.proofs.length.course_of as course
 use Rattle.blur.proofs.length.course_of.Symbol as course-def
 use Rattle.blur.proofs.length.course_of.Symbol.{name as #course}
@@ -92,10 +92,10 @@ use Rattle.blur.proofs.length.refused as refused
 use Rattle.blur.proofs.length.refused.Symbol as refused-def
 use Rattle.blur.proofs.length.refused.Symbol.{name as #refused}
 use Rattle.blur.proofs.length.refused.Met as refused-thm
-use Rattle.blur.proofs.scan.begin as begin
-use Rattle.blur.proofs.scan.begin.Symbol as begin-def
-use Rattle.blur.proofs.scan.begin.Symbol.{name as #begin}
-use Rattle.blur.proofs.scan.begin.Met as begin-thm
+use Rattle.swings.proofs.scan.begin as begin
+use Rattle.swings.proofs.scan.begin.Symbol as begin-def
+use Rattle.swings.proofs.scan.begin.Symbol.{name as #begin}
+use Rattle.swings.proofs.scan.begin.Met as begin-thm
 use Rattle.blur.proofs.select.opened as opened
 use Rattle.blur.proofs.select.opened.Symbol as opened-def
 use Rattle.blur.proofs.select.opened.Symbol.{name as #opened}
@@ -418,10 +418,10 @@ estimate-along-spec 𝓤 H 𝓜 𝓖 𝓡 =
     entered 𝓤 H (tripleOf 𝓤 H (𝓖 .A) f.signature (f.spec 𝓤 H (𝓖 .A) (𝓜 .mem) (𝓡 .run)))
     (tables 𝓤 H 𝓜 𝓡 code.env .C) (tables 𝓤 H 𝓜 𝓡 code.env .Λ) #estimate code.function (code.unfolded 𝓤 H 𝓜 𝓡)
     (estimate-meets 𝓤 H (𝓖 .A) (givenOf 𝓤 H 𝓜 𝓖) (𝓜 .mem) (𝓡 .run) (tablesOf 𝓤 H 𝓜 (tables 𝓤 H 𝓜 𝓡 code.env)) (record {
-      fills = cited 𝓤 H (FillC 𝓤 H (𝓖 .A) (𝓜 .mem) (𝓡 .run)) 𝓜 𝓡 code.env #fill fill-def.routine code.calls-blur·swings·fill (fill-thm.met 𝓤 H 𝓜 𝓖 𝓡);
-      selects = cited 𝓤 H (SelectC 𝓤 H (𝓖 .A) (𝓜 .mem) (𝓡 .run)) 𝓜 𝓡 code.env #select select-def.routine code.calls-blur·swings·select (select-thm.met 𝓤 H 𝓜 𝓖 𝓡);
+      fills = cited 𝓤 H (FillC 𝓤 H (𝓖 .A) (𝓜 .mem) (𝓡 .run)) 𝓜 𝓡 code.env #fill fill-def.routine code.calls-swings·fill (fill-thm.met 𝓤 H 𝓜 𝓖 𝓡);
+      selects = cited 𝓤 H (SelectC 𝓤 H (𝓖 .A) (𝓜 .mem) (𝓡 .run)) 𝓜 𝓡 code.env #select select-def.routine code.calls-blur·records·select (select-thm.met 𝓤 H 𝓜 𝓖 𝓡);
       courses = cited 𝓤 H (CourseC 𝓤 H (𝓖 .A) (𝓜 .mem) (𝓡 .run)) 𝓜 𝓡 code.env #course course-def.routine code.calls-blur·length·course-of (course-thm.met 𝓤 H 𝓜 𝓖 𝓡);
       refuses = cited 𝓤 H (RefusedC 𝓤 H (𝓖 .A) (𝓜 .mem) (𝓡 .run)) 𝓜 𝓡 code.env #refused refused-def.routine code.calls-blur·length·refused (refused-thm.met 𝓤 H 𝓜 𝓖 𝓡);
-      begins = cited 𝓤 H (BeginC 𝓤 H (𝓖 .A) (𝓜 .mem) (𝓡 .run)) 𝓜 𝓡 code.env #begin begin-def.routine code.calls-blur·scan·begin (begin-thm.met 𝓤 H 𝓜 𝓖 𝓡);
+      begins = cited 𝓤 H (BeginC 𝓤 H (𝓖 .A) (𝓜 .mem) (𝓡 .run)) 𝓜 𝓡 code.env #begin begin-def.routine code.calls-swings·scan·begin (begin-thm.met 𝓤 H 𝓜 𝓖 𝓡);
       opens = cited 𝓤 H (OpenedC 𝓤 H (𝓖 .A) (𝓜 .mem) (𝓡 .run)) 𝓜 𝓡 code.env #opened opened-def.routine code.calls-blur·select·opened (opened-thm.met 𝓤 H 𝓜 𝓖 𝓡);
     }))

@@ -50,8 +50,8 @@ use Rattle.raster.proofs.direction.RasterDirection4.from_angle as angle
 use Rattle.raster.proofs.direction.RasterDirection4.from_angle.Symbol as angle-def
 use Rattle.raster.proofs.direction.RasterDirection4.from_angle.Symbol.{name as #angle}
 use Rattle.raster.proofs.direction.RasterDirection4.from_angle.Met as angle-thm
-use Rattle.blur.proofs.Walk.Call.{answers}
-use Rattle.blur.proofs.swings.Swing as T0
+use Rattle.swings.proofs.Walk.Call.{answers}
+use Rattle.swings.proofs.Swing as T0
 use Rattle.blur.specs.declared.length.LengthAnswer.{LengthAnswer}
 use Rattle.blur.proofs.length.LengthAnswer as T1
 use Rattle.blur.proofs.length.LengthAnswer.Laws as T1′

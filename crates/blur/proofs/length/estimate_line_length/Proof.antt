@@ -45,9 +45,9 @@ use Prim.Native.Nat.{_-_}
 use Rattle.blur.specs.Length.{Estimated}
 use Rattle.blur.specs.Length.{defaults}
 use Rattle.raster.specs.Direction.{fromAngle}
-use Rattle.blur.specs.declared.swings.Swing.{Swing}
-use Rattle.blur.proofs.swings.Swing as T0
-use Rattle.blur.proofs.swings.Swing.Laws as T0′
+use Rattle.swings.specs.declared.Swing.{Swing}
+use Rattle.swings.proofs.Swing as T0
+use Rattle.swings.proofs.Swing.Laws as T0′
 use Rattle.blur.specs.declared.length.LengthAnswer.{LengthAnswer}
 use Rattle.blur.proofs.length.LengthAnswer as T1
 use Rattle.blur.proofs.length.LengthAnswer.Laws as T1′

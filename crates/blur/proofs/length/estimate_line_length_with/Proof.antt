@@ -47,9 +47,9 @@ use Rattle.raster.specs.Direction.{fromAngle}
 use Rattle.blur.specs.declared.length.LineLengthConfig.{LineLengthConfig}
 use Rattle.blur.proofs.length.LineLengthConfig as T0
 use Rattle.blur.proofs.length.LineLengthConfig.Laws as T0′
-use Rattle.blur.specs.declared.swings.Swing.{Swing}
-use Rattle.blur.proofs.swings.Swing as T1
-use Rattle.blur.proofs.swings.Swing.Laws as T1′
+use Rattle.swings.specs.declared.Swing.{Swing}
+use Rattle.swings.proofs.Swing as T1
+use Rattle.swings.proofs.Swing.Laws as T1′
 use Rattle.blur.specs.declared.length.LengthAnswer.{LengthAnswer}
 use Rattle.blur.proofs.length.LengthAnswer as T2
 use Rattle.blur.proofs.length.LengthAnswer.Laws as T2′

@@ -41,13 +41,13 @@ use denote.Exit.{yes}
 use denote.Enum.Laws as EL
 use Rattle.raster.specs.Direction.{fromAngle}
 use Rattle.blur.specs.Length.{Estimated}
-use Rattle.blur.specs.declared.swings.Swing.{Swing}
+use Rattle.swings.specs.declared.Swing.{Swing}
 use Rattle.blur.specs.declared.length.LengthAnswer.{LengthAnswer}
-use Rattle.blur.proofs.swings.Swing as S
+use Rattle.swings.proofs.Swing as S
 use Rattle.blur.proofs.length.LengthAnswer as R
 use Rattle.blur.proofs.length.LengthAnswer.Laws as R′
-use Rattle.blur.proofs.Walk.Call.{answers}
-use Rattle.blur.proofs.Walk.Free.{frees-all}
+use Rattle.swings.proofs.Walk.Call.{answers}
+use Rattle.swings.proofs.Walk.Free.{frees-all}
 use Rattle.blur.proofs.length.estimate_at as estimate
 use Rattle.blur.proofs.length.estimate_at.Symbol as estimate-def
 use Rattle.blur.proofs.length.estimate_at.Symbol.{name as #estimate}

@@ -42,10 +42,10 @@ use denote.Triple.Spec.{Meets, tripleOf}
 use denote.Triple.Table.{entered, cited}
 use denote.Triple.Walked.{says, Stays, stay-dropped, gave-slice, gave-ref, walkOf, AllGo, goes-dropped, goes-gave-slice, goes-gave-ref, Walks, ends-at, walked, walk-meets}
 use denote.Exit.{yes}
-use Rattle.blur.specs.declared.swings.Swing.{Swing}
-use Rattle.blur.proofs.swings.Swing as S
-use Rattle.blur.proofs.Walk.Call.{answers}
-use Rattle.blur.proofs.Walk.Free.{frees-all}
+use Rattle.swings.specs.declared.Swing.{Swing}
+use Rattle.swings.proofs.Swing as S
+use Rattle.swings.proofs.Walk.Call.{answers}
+use Rattle.swings.proofs.Walk.Free.{frees-all}
 use Rattle.job.specs.Job.{Restored}
 use Rattle.job.specs.declared.JobConfig.{JobConfig}
 use Rattle.job.specs.declared.JobAnswer.{JobAnswer}

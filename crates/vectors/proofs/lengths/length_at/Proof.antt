@@ -46,13 +46,13 @@ use denote.Exit.{yes}
 use Rattle.raster.specs.Direction.{fromAngle}
 use Rattle.blur.specs.Length.{lengthAnswer, Estimated}
 use Rattle.blur.specs.declared.length.LengthAnswer.{LengthAnswer}
-use Rattle.blur.specs.declared.swings.Swing.{Swing}
-use Rattle.blur.proofs.Walk.Call.{answers}
-use Rattle.blur.proofs.Walk.Free.{frees-all}
-use Rattle.blur.proofs.Walk.Lend.{lends, ends-loan}
-use Rattle.blur.proofs.Walk.LocalArray.{array-row, row-room, array-typed}
-use Rattle.blur.proofs.swings.Swing as S
-use Rattle.blur.proofs.swings.Swing.Laws as S′
+use Rattle.swings.specs.declared.Swing.{Swing}
+use Rattle.swings.proofs.Walk.Call.{answers}
+use Rattle.swings.proofs.Walk.Free.{frees-all}
+use Rattle.swings.proofs.Walk.Lend.{lends, ends-loan}
+use Rattle.swings.proofs.Walk.LocalArray.{array-row, row-room, array-typed}
+use Rattle.swings.proofs.Swing as S
+use Rattle.swings.proofs.Swing.Laws as S′
 use Rattle.blur.proofs.length.LengthAnswer as R
 use Rattle.blur.proofs.length.LengthAnswer.Laws as R′
 use Rattle.blur.proofs.length.estimate_at as estimate

@@ -1,0 +1,17 @@
+-- `swings::rises::swing_of` meets its contract. Assumes nothing.
+use borrow.Author.Needs.{needs}
+use borrow.Author.Tests.{lt-ltb, le-ltb}
+use Rattle.swings.proofs.rises.swing_of.Statement.{statement}
+use Rattle.swings.proofs.rises.swing_of.Tie as tie
+
+sub-result : tie.Need-sub-result
+sub-result c = search needs
+
+returns : tie.Need-returns
+returns c = simp (lt-ltb _ _ (c .if1 .taken))
+
+returns-2 : tie.Need-returns-2
+returns-2 c = simp (le-ltb _ _ (c .if1 .left))
+
+pub swing-of-spec : {M : Type 1} → statement M
+swing-of-spec = tie.close (tie.spec sub-result returns returns-2)

@@ -1,0 +1,123 @@
+-- `swings::scan::next_on_line` meets its contract: at each turn the line's swings from sample a on are those from sample `from` on. Assumes nothing.
+use mathlib.Core.Path.{_≡_, refl, sym, _∙_}
+use Prim.Native.Nat.{_-_, _≤_, _^_}
+use native.Mathlib.Omega.{arith}
+use borrow.Author.Needs.{needs}
+use Rattle.swings.specs.declared.scan.NextRun.the-variants.{Of}
+use Rattle.swings.specs.Line.{sample}
+use Rattle.swings.specs.Swings.{lineSwings}
+use Rattle.swings.specs.Scan.{RunTo}
+use Rattle.swings.proofs.Line.{sample-within}
+use Rattle.swings.proofs.LineSwings.{swings-short, swings-end, swings-level, swings-found, swings-nothing}
+use Rattle.swings.proofs.scan.next_on_line.Statement.{statement}
+use Rattle.swings.proofs.scan.next_on_line.Tie as tie
+
+abbrev Inv-loop : tie.InvT-loop
+Inv-loop «data» start step n from pixel minimum-amplitude last a₀ a =
+    let x = sample «data» start step in
+    lineSwings minimum-amplitude pixel x n from ≡ lineSwings minimum-amplitude pixel x n a
+
+abbrev μ-loop : tie.MeasureT-loop
+μ-loop «data» start step n from pixel minimum-amplitude last a₀ a = last - a
+
+returns : tie.Need-returns Inv-loop μ-loop
+returns c =
+    let a = c .before .before .args in
+    swings-short (a .minimum-amplitude) (a .pixel) (sample (a .«data» .now) (a .start) (a .step)) (a .n) (a .from) (c .if1 .taken)
+
+sub-last : tie.Need-sub-last Inv-loop μ-loop
+sub-last c = omega arith
+
+loop-holds : tie.Need-loop-holds Inv-loop μ-loop
+loop-holds c = refl
+
+next-run-requires : tie.Need-next-run-requires Inv-loop μ-loop
+next-run-requires c κs = (c .loop-test .taken, c .before .before .before .before .pre .1)
+
+enum-known-first : tie.Need-enum-known-first Inv-loop μ-loop
+enum-known-first c = search needs
+
+enum-told : tie.Need-enum-told Inv-loop μ-loop
+enum-told c = search needs
+
+returns-2 : tie.Need-returns-2 Inv-loop μ-loop
+returns-2 c =
+    let l = c .before .before .before .before in
+    let a = l .before .before .before .args in
+    l .loop .inv
+    ∙ swings-level (a .minimum-amplitude) (a .pixel) (sample (a .«data» .now) (a .start) (a .step)) (a .n) (l .loop .a) (l .before .if1 .left) (rw (c .enum-told .given .1) at (c .before .before .next-run .ensures))
+
+-- the run that was found
+ran : (c : tie.After-known-told Inv-loop μ-loop)
+    → let l = c .before .before .before .before .before in let a = l .before .before .before .args in
+    RunTo (sample (a .«data» .now) (a .start) (a .step)) (a .minimum-amplitude) (a .n - 1) (l .loop .a) (Of (c .before .first .given .0 .0) (c .before .first .given .0 .1 .0))
+ran c = rw (c .before .first .given .1) at (c .before .before .before .next-run .ensures)
+
+rise-of-requires : tie.Need-rise-of-requires Inv-loop μ-loop
+rise-of-requires c κs =
+    let s = c .before .before .before .before .before .before .before .before in
+    let b = c .before .first .given .0 .1 .0 in
+    let w = ran c .within in
+    let small : s .args .n ≤ 2 ^ 53 = s .pre .0 in
+    (omega arith, omega arith, sample-within (s .args .start) (s .args .step) {i = b} (w .2) (s .pre .1))
+
+enum-known-s : tie.Need-enum-known-s Inv-loop μ-loop
+enum-known-s c = search needs
+
+scaled-requires : tie.Need-scaled-requires Inv-loop μ-loop
+scaled-requires c κs = tt
+
+returns-3 : tie.Need-returns-3 Inv-loop μ-loop
+returns-3 c =
+    let f = c .before .before in
+    let k = f .before .before .before in
+    let l = k .before .before .before .before .before in
+    let a = l .before .before .before .args in
+    rw (c .scaled .ensures)
+    (l .loop .inv
+    ∙ swings-found (a .minimum-amplitude) (a .pixel) (sample (a .«data» .now) (a .start) (a .step)) (a .n) (l .loop .a) (k .before .first .given .0 .0) (k .before .first .given .0 .1 .0) (l .before .if1 .left) (ran k) (f .s .given .0 .0)
+    (sym (f .before .before .rise-of .ensures) ∙ f .s .given .1))
+
+enum-told-2 : tie.Need-enum-told-2 Inv-loop μ-loop
+enum-told-2 c = search needs
+
+loop-less : tie.Need-loop-less Inv-loop μ-loop
+loop-less c = let w = ran (c .before .before .before) .within in omega arith
+
+loop-again : tie.Need-loop-again Inv-loop μ-loop
+loop-again c =
+    let k = c .before .before .before in
+    let l = k .before .before .before .before .before in
+    let a = l .before .before .before .args in
+    l .loop .inv
+    ∙ swings-nothing (a .minimum-amplitude) (a .pixel) (sample (a .«data» .now) (a .start) (a .step)) (a .n) (l .loop .a) (k .before .first .given .0 .0) (k .before .first .given .0 .1 .0) (l .before .if1 .left) (ran k)
+    (sym (c .before .before .rise-of .ensures) ∙ c .enum-told2 .given .1)
+
+returns-4 : tie.Need-returns-4 Inv-loop μ-loop
+returns-4 c =
+    let l = c .before in
+    let a = l .before .before .before .args in
+    l .loop .inv
+    ∙ swings-end (a .minimum-amplitude) (a .pixel) (sample (a .«data» .now) (a .start) (a .step)) (a .n) (l .loop .a) (l .before .if1 .left) (c .loop-test .left)
+
+pub next-on-line-spec : {M : Type 1} → statement M
+next-on-line-spec =
+    tie.close
+    (tie.spec
+    Inv-loop
+    μ-loop
+    returns
+    sub-last
+    loop-holds
+    next-run-requires
+    enum-known-first
+    enum-told
+    returns-2
+    rise-of-requires
+    enum-known-s
+    scaled-requires
+    returns-3
+    enum-told-2
+    loop-less
+    loop-again
+    returns-4)

@@ -135,22 +135,22 @@ fn slope_end(data: &[u8], start: usize, step: usize, last: usize, from: usize, s
     at
 }
 
-// Whether a run is told: it turns, and changed enough.
-fn is_told(turns: bool, change: u8, least: u8) -> bool
-    ensures { λ r. ⌜ r ≡ (not (ltb change least) && turns) ⌝ }
+// Whether the present run is the one to tell of: it turned, and changed enough.
+fn is_told(turned: bool, change: u8, least: u8) -> bool
+    ensures { λ r. ⌜ r ≡ (not (ltb change least) && turned) ⌝ }
 {
     if change < least {
         return false;
     }
-    turns
+    turned
 }
 
-// Where the present run starts, from whether it turned at sample `at`; and the same of its value there, and of whether it rises.
-// A struct of the three would be branched over.
-fn start_of(turned: bool, at: usize, start: usize) -> usize
-    ensures { λ r. ⌜ r ≡ cond turned at start ⌝ }
+// Behind sample `at`, which the run before it turned at or not: where the present run starts, its value there, and whether it
+// rises. Three numbers are chosen where a struct of them would be branched over.
+fn first_of(turned: bool, at: usize, first: usize) -> usize
+    ensures { λ r. ⌜ r ≡ cond turned at first ⌝ }
 {
-    if turned { at } else { start }
+    if turned { at } else { first }
 }
 
 fn value_of(turned: bool, v: u8, value: u8) -> u8
@@ -166,7 +166,7 @@ fn rises_on(turned: bool, rising: bool) -> bool
 }
 
 // The run that starts at sample `first` and rises, or falls, up to sample `from`; or, where it changes by less than `least`, the
-// next one that changes enough; or the last one. Small runs are passed with no branch to guess.
+// next one that changes enough; or the last one. Small runs, as a picture's noise has them, are passed with no branch to guess.
 fn steep_run(
     data: &[u8],
     start: usize,
@@ -192,7 +192,7 @@ fn steep_run(
         if is_told(turned, swing_of(value, v), least) {
             return NextRun::Of(a, at);
         }
-        a = start_of(turned, at, a);
+        a = first_of(turned, at, a);
         value = value_of(turned, v, value);
         rises = rises_on(turned, rises);
         v = w;

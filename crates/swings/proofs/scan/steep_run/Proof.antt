@@ -67,8 +67,8 @@ returns c =
       within = (l .loop .inv .began, l .loop .inv .past, l .loop .inv .within);
     }
 
-start-of-requires : tie.Need-start-of-requires Inv-loop μ-loop
-start-of-requires c κs = tt
+first-of-requires : tie.Need-first-of-requires Inv-loop μ-loop
+first-of-requires c κs = tt
 
 value-of-requires : tie.Need-value-of-requires Inv-loop μ-loop
 value-of-requires c κs = tt
@@ -85,7 +85,7 @@ loop-again c =
     let t = e .before .before .before in
     let l = t .before .before .before in
     let a = l .before .before .before .before .args in
-    rw (c .before .before .start-of .ensures, c .before .value-of .ensures, c .rises-on .ensures)
+    rw (c .before .before .first-of .ensures, c .before .value-of .ensures, c .rises-on .ensures)
     (left-on (sample (a .«data» .now) (a .start) (a .step)) (a .least) (a .last) (a .first) (a .from) (a .rising) (l .loop .a) (l .loop .value) (l .loop .rises) (l .loop .v) (l .loop .at)
     (l .loop .inv) (t .before .before .loop-test .taken) (t .before .sample-at3 .result) (t .before .sample-at3 .ensures) (t .turns .result) (t .turns .ensures)
     (ap (λ (s : ℕ). not (ltb s (a .least)) && t .turns .result) (sym (e .before .before .swing-of .ensures)) ∙ sym (e .before .is-told .ensures) ∙ e .if1 .left))
@@ -115,7 +115,7 @@ steep-run-spec =
     swing-of-requires
     is-told-requires
     returns
-    start-of-requires
+    first-of-requires
     value-of-requires
     rises-on-requires
     loop-less

@@ -20,15 +20,15 @@ const SIDE: usize = 1024;
 const PIXELS: usize = SIDE * SIDE;
 const ROUNDS: usize = 9;
 
-/// A label: modules of 8 pixels, black or white, smeared along the rows over 9 pixels, with a little noise.
-fn label(random: &mut Random) -> Vec<u8> {
+/// A label: modules of 8 pixels, black or white, smeared along the rows over 9 pixels, with noise of so many levels.
+fn label(random: &mut Random, levels: u64) -> Vec<u8> {
     let modules: Vec<i32> = (0..(SIDE / 8 + 1) * (SIDE / 8)).map(|_| 40 + 170 * random.below(2) as i32).collect();
     let sharp = |x: usize, y: usize| modules[y / 8 * (SIDE / 8 + 1) + x / 8];
     (0..PIXELS)
         .map(|place| {
             let (x, y) = (place % SIDE, place / SIDE);
             let sum: i32 = (0..9).map(|k| sharp(x.saturating_sub(k), y)).sum();
-            (sum / 9 + random.below(5) as i32) as u8
+            (sum / 9 + random.below(levels) as i32) as u8
         })
         .collect()
 }
@@ -80,7 +80,7 @@ fn row(only: &str, name: &str, work: usize, mut ours: impl FnMut(), mut theirs: 
 fn main() {
     let only = std::env::args().nth(1).unwrap_or_default();
     let mut random = Random::new(1);
-    let pictures = [("label", label(&mut random)), ("noise", noise(&mut random))];
+    let pictures = [("label", label(&mut random, 5)), ("noise", noise(&mut random))];
     let mut dst = vec![0u8; PIXELS];
     let mut other = vec![0u8; PIXELS];
     println!("{:<44} {:>8} {:>8} {:>8}", "ns a pixel (and iteration)", "ours", "Rust", "ratio");
@@ -128,11 +128,15 @@ fn main() {
 const DIRECTIONS: [(&str, f64); 4] = [("Horizontal", 0.0), ("DownRight", 0.75), ("Vertical", 1.5), ("DownLeft", 2.25)];
 const BORDERS: [(&str, LineBorderMode); 3] = [("Replicate", LineBorderMode::Replicate), ("Reflect", LineBorderMode::Reflect), ("Constant", LineBorderMode::Constant(128))];
 
-/// The length of a smear, in each direction; stripes of one pixel give the most swings that a picture can have.
+/// The length of a smear, in each direction: of a label with and without noise, of noise, of a ramp, whose lines are one run each, and of
+/// stripes, which give the most swings that a picture can have.
 fn lengths(only: &str, pictures: &[(&str, Vec<u8>); 2]) {
+    let clean = label(&mut Random::new(1), 1);
+    let ramp: Vec<u8> = (0..PIXELS).map(|place| (place % SIDE / 4) as u8).collect();
     let stripes: Vec<u8> = (0..PIXELS).map(|place| if (place % SIDE + place / SIDE * 2) % 4 < 2 { 255 } else { 0 }).collect();
     let mut swings = vec![Swing { width: 0.0, swing: 0 }; PIXELS];
-    for (kind, data) in [(pictures[0].0, &pictures[0].1), (pictures[1].0, &pictures[1].1), ("stripes", &stripes)] {
+    let [(_, label), (_, noise)] = pictures;
+    for (kind, data) in [("label", label), ("clean label", &clean), ("noise", noise), ("ramp", &ramp), ("stripes", &stripes)] {
         let view = Gray8View::new(data, SIDE, SIDE, SIDE).unwrap();
         for (direction, angle) in DIRECTIONS {
             row(

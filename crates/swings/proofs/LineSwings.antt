@@ -9,13 +9,12 @@ use borrow.Author.Tests.{ltb-true, lt-ltb, le-ltb}
 use lib.Ieee.{Float}
 use Rattle.swings.specs.declared.Swing.{Swing}
 use Rattle.swings.specs.declared.rises.Rise.the-variants.{Found, Nothing}
-use Rattle.swings.specs.declared.scan.NextRun.{NextRun}
-use Rattle.swings.specs.declared.scan.NextRun.the-variants.{Of}
+use Rattle.swings.specs.declared.scan.RunEnd.the-variants.{At, Level}
 use Rattle.swings.specs.Line.{Lines}
 use Rattle.swings.specs.Rise.{swingOf, riseOf}
 use Rattle.swings.specs.Runs.{Run, runsUpTo, runsAfter}
 use Rattle.swings.specs.Swings.{scaledBy, withRise, swingsOf, lineSwings, swingsFrom}
-use Rattle.swings.specs.Scan.{steep, runsBy, RunTo}
+use Rattle.swings.specs.Scan.{steep, RunTo, SteepFrom}
 use Rattle.swings.proofs.Line.{left-more, left-none}
 use Rattle.swings.proofs.Rise.{rise-small}
 use Rattle.swings.proofs.Runs.{runs-none}
@@ -34,7 +33,7 @@ module _ (least : ℕ) (pixel : Float) (x : ℕ → ℕ) (n a : ℕ) where
   swings-end h k = rw (line-swings h, runs-none x (n - 1) a k)
 
 -- runs that change by less than the least swing have none
-pub swings-steep : (least : ℕ) (pixel : Float) (x : ℕ → ℕ) (rs : List Run) → swingsOf least pixel x rs ≡ swingsOf least pixel x (steep least x rs)
+swings-steep : (least : ℕ) (pixel : Float) (x : ℕ → ℕ) (rs : List Run) → swingsOf least pixel x rs ≡ swingsOf least pixel x (steep least x rs)
 unfolding swingsOf steep
 swings-steep least pixel x [] = refl
 swings-steep least pixel x (r ∷ rs) = go (ltb (swingOf (x (r .first)) (x (r .last))) least) refl (swings-steep least pixel x rs)
@@ -44,27 +43,27 @@ swings-steep least pixel x (r ∷ rs) = go (ltb (swingOf (x (r .first)) (x (r .l
     go true e h = rw (rise-small least x (r .first) (r .last) (ltb-true _ _ e)) h
     go false e h = ap (withRise pixel (riseOf least x (r .first) (r .last))) h
 
-module _ (least : ℕ) (pixel : Float) (x : ℕ → ℕ) (n a : ℕ) (o : NextRun) (h : 3 ≤ n) (r : RunTo x least (n - 1) a o) where
-  swings-by : lineSwings least pixel x n a ≡ swingsOf least pixel x (runsBy x (n - 1) o)
-  swings-by =
-      line-swings least pixel x n a h
-      ∙ swings-steep least pixel x (runsUpTo x (n - 1) a)
-      ∙ ap (swingsOf least pixel x) (r .runs)
-      ∙ sym (swings-steep least pixel x (runsBy x (n - 1) o))
+pub swings-from : (least : ℕ) (pixel : Float) (x : ℕ → ℕ) (n b r : ℕ) → 3 ≤ n → SteepFrom x least (n - 1) b r → lineSwings least pixel x n b ≡ lineSwings least pixel x n r
+swings-from least pixel x n b r h s =
+    line-swings least pixel x n b h
+    ∙ swings-steep least pixel x (runsUpTo x (n - 1) b)
+    ∙ ap (swingsOf least pixel x) (s .runs)
+    ∙ sym (swings-steep least pixel x (runsUpTo x (n - 1) r))
+    ∙ sym (line-swings least pixel x n r h)
 
-pub swings-level : (least : ℕ) (pixel : Float) (x : ℕ → ℕ) (n a : ℕ) → 3 ≤ n → RunTo x least (n - 1) a NextRun.End → lineSwings least pixel x n a ≡ []
+pub swings-level : (least : ℕ) (pixel : Float) (x : ℕ → ℕ) (n a : ℕ) → 3 ≤ n → RunTo x (n - 1) a Level → lineSwings least pixel x n a ≡ []
 unfolding swingsOf
-swings-level least pixel x n a h r = swings-by least pixel x n a NextRun.End h r
+swings-level least pixel x n a h r = rw (line-swings least pixel x n a h, r .runs)
 
-module _ (least : ℕ) (pixel : Float) (x : ℕ → ℕ) (n a first b : ℕ) (h : 3 ≤ n) (r : RunTo x least (n - 1) a (Of first b)) where
-  swings-run : lineSwings least pixel x n a ≡ withRise pixel (riseOf least x first b) (lineSwings least pixel x n b)
+module _ (least : ℕ) (pixel : Float) (x : ℕ → ℕ) (n a b : ℕ) (h : 3 ≤ n) (r : RunTo x (n - 1) a (At b)) where
+  swings-run : lineSwings least pixel x n a ≡ withRise pixel (riseOf least x a b) (lineSwings least pixel x n b)
   unfolding swingsOf
-  swings-run = swings-by least pixel x n a (Of first b) h r ∙ ap (withRise pixel (riseOf least x first b)) (sym (line-swings least pixel x n b h))
+  swings-run = rw (line-swings least pixel x n a h, line-swings least pixel x n b h, r .runs)
 
-  pub swings-found : (s : Swing) → riseOf least x first b ≡ Found s → lineSwings least pixel x n a ≡ scaledBy pixel s ∷ lineSwings least pixel x n b
+  pub swings-found : (s : Swing) → riseOf least x a b ≡ Found s → lineSwings least pixel x n a ≡ scaledBy pixel s ∷ lineSwings least pixel x n b
   swings-found s e = rw (swings-run, e)
 
-  pub swings-nothing : riseOf least x first b ≡ Nothing → lineSwings least pixel x n a ≡ lineSwings least pixel x n b
+  pub swings-nothing : riseOf least x a b ≡ Nothing → lineSwings least pixel x n a ≡ lineSwings least pixel x n b
   swings-nothing e = rw (swings-run, e)
 
 module _ (least : ℕ) (pixel : Float) (lines : Lines) (k a : ℕ) where

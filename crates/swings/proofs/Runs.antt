@@ -164,34 +164,26 @@ turned-slope false Level e = absurd (true≢false (sym e))
 turned-slope false Rising e = refl
 turned-slope false Falling e = absurd (true≢false (sym e))
 
--- ---- the runs that change enough: one that does not is passed
-module _ (x : ℕ → ℕ) (least last a : ℕ) (rising : Bool) (i : ℕ) (h : i < last) where
-  steep-turn : turnsAt (slopeOf rising) (stepOf (x i) (x (i + 1))) ≡ true → swingOf (x a) (x i) < least
-      → steep least x (runsFrom x a (slopeOf rising) i (last - i)) ≡ steep least x (runsFrom x i (slopeOf (not rising)) (i + 1) (last - (i + 1)))
-  unfolding steep
-  steep-turn e k =
-      ap (steep least x) (runs-turn x last a (slopeOf rising) i h e)
-      ∙ ap (λ (t : Bool). cond t (steep least x (runsUpTo x last i)) (record { first = a; last = i } ∷ steep least x (runsUpTo x last i))) (lt-ltb (swingOf (x a) (x i)) least k)
-      ∙ ap (steep least x) (runs-start x last i h ∙ ap (λ (s : Slope). runsFrom x i s (i + 1) (last - (i + 1))) (turned-slope rising (stepOf (x i) (x (i + 1))) e))
-
--- the state of the loop of `steep_run`: at sample i, v, the run from sample a on rises or falls, and the runs that are left and change enough are those that were
--- left at sample `from`
-module _ (x : ℕ → ℕ) (least last first from : ℕ) (rising : Bool) where
+-- ---- the state of the loop of `steep_from`: at sample i, v, the present run began at sample a, value, and rises or falls; the runs from there on that change enough
+-- are those from sample b on
+module _ (x : ℕ → ℕ) (least last b : ℕ) where
   pub record Left (a value : ℕ) (rises : Bool) (v i : ℕ) : Type 0 where
-    pub past : from ≤ i
+    pub past : b ≤ i
     pub within : i ≤ last
     pub here : v ≡ x i
     pub there : value ≡ x a
-    pub began : a ≤ i
-    pub runs : steep least x (runsFrom x first (slopeOf rising) from (last - from)) ≡ steep least x (runsFrom x a (slopeOf rises) i (last - i))
+    pub began : b ≤ a
+    pub runs : runsUpTo x last a ≡ runsFrom x a (slopeOf rises) i (last - i)
+    pub passed : steep least x (runsUpTo x last b) ≡ steep least x (runsUpTo x last a)
 
-  -- at the next sample, w, it goes on, or, if it turned and is small, the one that starts here does
+  -- at the next sample, w, it goes on, or, if it turned and is small, it is passed, and the one that starts here goes on
   pub left-on : (a value : ℕ) (rises : Bool) (v i : ℕ) → Left a value rises v i → i < last → (w : ℕ) → w ≡ x (i + 1) → (t : Bool) → t ≡ turnsAt (slopeOf rises) (stepOf v w)
       → (not (ltb (swingOf value v) least) && t) ≡ false → Left (cond t i a) (cond t v value) (cond t (not rises) rises) w (i + 1)
+  unfolding steep
   left-on a value rises v i l h w next t e f = go t (rw (l .here, next) at (sym e)) (rw (l .there, l .here) at f)
     where
-      small : (t : Bool) → ltb (swingOf (x a) (x i)) least ≡ t → (not t && true) ≡ false → swingOf (x a) (x i) < least
-      small true e f = ltb-true (swingOf (x a) (x i)) least e
+      small : (t : Bool) → ltb (swingOf (x a) (x i)) least ≡ t → (not t && true) ≡ false → ltb (swingOf (x a) (x i)) least ≡ true
+      small true e f = e
       small false e f = absurd (true≢false f)
 
       go : (t : Bool) → turnsAt (slopeOf rises) (stepOf (x i) (x (i + 1))) ≡ t → (not (ltb (swingOf (x a) (x i)) least) && t) ≡ false
@@ -202,8 +194,13 @@ module _ (x : ℕ → ℕ) (least last first from : ℕ) (rising : Bool) where
             within = omega arith;
             here = next;
             there = l .here;
-            began = omega arith;
-            runs = l .runs ∙ steep-turn x least last a rises i h e (small (ltb (swingOf (x a) (x i)) least) refl f);
+            began = l .past;
+            runs = runs-start x last i h ∙ ap (λ (s : Slope). runsFrom x i s (i + 1) (last - (i + 1))) (turned-slope rises (stepOf (x i) (x (i + 1))) e);
+            passed =
+                l .passed
+                ∙ ap (steep least x) (l .runs ∙ runs-turn x last a (slopeOf rises) i h e)
+                ∙ ap (λ (t : Bool). cond t (steep least x (runsUpTo x last i)) (record { first = a; last = i } ∷ steep least x (runsUpTo x last i)))
+                (small (ltb (swingOf (x a) (x i)) least) refl f);
           }
       go false e f =
           record {
@@ -211,8 +208,9 @@ module _ (x : ℕ → ℕ) (least last first from : ℕ) (rising : Bool) where
             within = omega arith;
             here = next;
             there = l .there;
-            began = omega (arith, l .began);
-            runs = l .runs ∙ ap (steep least x) (slope-on x last rises i a h e);
+            began = l .began;
+            runs = l .runs ∙ slope-on x last rises i a h e;
+            passed = l .passed;
           }
 
 -- ---- the runs lie in the line

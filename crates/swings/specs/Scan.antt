@@ -12,8 +12,7 @@ use Rattle.numbers.specs.Scalar.{clampByte}
 use Rattle.raster.specs.declared.lines.ScanLine.{ScanLine}
 use Rattle.raster.specs.Lines.{lineAt}
 use Rattle.swings.specs.declared.Swing.{Swing}
-use Rattle.swings.specs.declared.scan.NextRun.{NextRun}
-use Rattle.swings.specs.declared.scan.NextRun.the-variants.{Of}
+use Rattle.swings.specs.declared.scan.RunEnd.{RunEnd}
 use Rattle.swings.specs.declared.scan.OnLine.{OnLine}
 use Rattle.swings.specs.declared.scan.OnLine.the-variants.{Next, End}
 use Rattle.swings.specs.declared.scan.Course.{Course}
@@ -48,30 +47,28 @@ pub record SlopeEnd (x : ℕ → ℕ) (last i : ℕ) (rising : Bool) (r : ℕ) :
   pub same : (a : ℕ) → runsFrom x a (slopeOf rising) i (last - i) ≡ runsFrom x a (slopeOf rising) r (last - r)
   pub ends : (a : ℕ) → runsFrom x a (slopeOf rising) r (last - r) ≡ record { first = a; last = r } ∷ runsUpTo x last r
 
+-- it ends at sample b, where the others start, or there is none
+abbrev pub runsBy : (ℕ → ℕ) → ℕ → ℕ → RunEnd → List Run
+runsBy x last a (RunEnd.At b) = record { first = a; last = b } ∷ runsUpTo x last b
+runsBy x last a RunEnd.Level = []
+
+abbrev pub endWithin : ℕ → ℕ → RunEnd → Type 0
+endWithin a last (RunEnd.At b) = (a < b) × (b ≤ last)
+endWithin a last RunEnd.Level = Unit {0}
+
+pub record RunTo (x : ℕ → ℕ) (last a : ℕ) (r : RunEnd) : Type 0 where
+  pub runs : runsUpTo x last a ≡ runsBy x last a r
+  pub within : endWithin a last r
+
 -- the runs that change by at least `least`
 unfoldable pub steep : ℕ → (ℕ → ℕ) → List Run → List Run
 steep least x [] = []
 steep least x (r ∷ rs) = cond (ltb (swingOf (x (r .first)) (x (r .last))) least) (steep least x rs) (r ∷ steep least x rs)
 
--- a run is told, and those that start where it ends; or none is
-abbrev pub runsBy : (ℕ → ℕ) → ℕ → NextRun → List Run
-runsBy x last (Of a b) = record { first = a; last = b } ∷ runsUpTo x last b
-runsBy x last NextRun.End = []
-
--- its last sample is not before sample i
-abbrev pub runWithin : ℕ → ℕ → NextRun → Type 0
-runWithin i last (Of a b) = (a ≤ b) × (i ≤ b) × (b ≤ last)
-runWithin i last NextRun.End = Unit {0}
-
--- of the runs that are left at sample i, where the one from sample a on rises or falls
-pub record SlopeTo (x : ℕ → ℕ) (least last a i : ℕ) (rising : Bool) (r : NextRun) : Type 0 where
-  pub runs : steep least x (runsFrom x a (slopeOf rising) i (last - i)) ≡ steep least x (runsBy x last r)
-  pub within : runWithin i last r
-
--- of the runs from sample a on
-pub record RunTo (x : ℕ → ℕ) (least last a : ℕ) (r : NextRun) : Type 0 where
-  pub runs : steep least x (runsUpTo x last a) ≡ steep least x (runsBy x last r)
-  pub within : runWithin (a + 1) last r
+-- those from sample b on are those from sample r on
+pub record SteepFrom (x : ℕ → ℕ) (least last b r : ℕ) : Type 0 where
+  pub from : b ≤ r
+  pub runs : steep least x (runsUpTo x last b) ≡ steep least x (runsUpTo x last r)
 
 -- the swings of a line from a sample on: the next one and those behind it, or none
 abbrev pub saidOnLine : ℕ → Float → (ℕ → ℕ) → ℕ → OnLine → List Swing

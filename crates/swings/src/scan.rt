@@ -10,7 +10,7 @@ ghost use Rattle.raster.specs.Lines.{Sides, lineCount};
 ghost use Rattle.swings.specs.Line.{sample, InCourse};
 ghost use Rattle.swings.specs.Runs.{stepOf, turnsAt};
 ghost use Rattle.swings.specs.Swings.{scaledBy, lineSwings, larger};
-ghost use Rattle.swings.specs.Scan.{slopeOf, LevelTo, SlopeEnd, SlopeTo, RunTo, saidOnLine, lineOn, Open, Spots, raisedTo, lesser, greater, widenedBy, Scans, begun};
+ghost use Rattle.swings.specs.Scan.{slopeOf, LevelTo, SlopeEnd, RunTo, SteepFrom, saidOnLine, lineOn, Open, Spots, raisedTo, lesser, greater, widenedBy, Scans, begun};
 use crate::Swing;
 use crate::rises::Rise;
 use crate::rises::amplitude;
@@ -22,10 +22,10 @@ use raster::direction::RasterDirection4;
 use raster::lines::ScanLine;
 use raster::lines::line_at;
 
-// A line's next run, from its first sample to its last. A line that never changes has none.
-pub enum NextRun {
-    Of(usize, usize),
-    End,
+// Where a run ends. A line that does not change any more has none.
+pub enum RunEnd {
+    At(usize),
+    Level,
 }
 
 // The next swing of a line, with the sample where the next run starts.
@@ -135,7 +135,23 @@ fn slope_end(data: &[u8], start: usize, step: usize, last: usize, from: usize, s
     at
 }
 
-// Whether the present run is the one to tell of: it turned, and changed enough.
+// Where the run that starts at sample a ends. It is followed with branches, which are guessed well where runs are long or alike.
+fn run_end(data: &[u8], start: usize, step: usize, last: usize, a: usize) -> RunEnd
+    requires { ⌜ (a < last) × (start + last * step < length (now «data»)) ⌝ }
+    ensures { λ r. ⌜ RunTo (sample (now («data» .entry)) start step) last a r ⌝ }
+{
+    let i = level_end(data, start, step, last, a);
+    if last <= i {
+        return RunEnd::Level;
+    }
+    let slope = amplitude(
+        sample_at(data, start, step, i),
+        sample_at(data, start, step, i + 1),
+    );
+    RunEnd::At(slope_end(data, start, step, last, i + 1, slope))
+}
+
+// Whether the present run is the one looked for: it turned, and changed enough.
 fn is_told(turned: bool, change: u8, least: u8) -> bool
     ensures { λ r. ⌜ r ≡ (not (ltb change least) && turned) ⌝ }
 {
@@ -165,32 +181,27 @@ fn rises_on(turned: bool, rising: bool) -> bool
     if turned { !rising } else { rising }
 }
 
-// The run that starts at sample `first` and rises, or falls, up to sample `from`; or, where it changes by less than `least`, the
-// next one that changes enough; or the last one. Small runs, as a picture's noise has them, are passed with no branch to guess.
-fn steep_run(
-    data: &[u8],
-    start: usize,
-    step: usize,
-    last: usize,
-    first: usize,
-    from: usize,
-    rising: bool,
-    least: u8,
-) -> NextRun
-    requires { ⌜ (first ≤ from) × (from ≤ last) × (start + last * step < length (now «data»)) ⌝ }
-    ensures { λ r. ⌜ SlopeTo (sample (now («data» .entry)) start step) least last first from rising r ⌝ }
+// Where the next run starts that changes by at least `least`, of those from sample b on; or the last one. Small runs, as a picture's
+// noise has them, are passed with no branch to guess.
+fn steep_from(data: &[u8], start: usize, step: usize, last: usize, b: usize, least: u8) -> usize
+    requires { ⌜ (b ≤ last) × (start + last * step < length (now «data»)) ⌝ }
+    ensures { λ r. ⌜ SteepFrom (sample (now («data» .entry)) start step) least last b r ⌝ }
 {
-    let mut a = first;
-    let mut value = sample_at(data, start, step, first);
-    let mut v = sample_at(data, start, step, from);
-    let mut rises = rising;
-    let mut at = from;
+    let i = level_end(data, start, step, last, b);
+    if last <= i {
+        return b;
+    }
+    let mut a = b;
+    let mut value = sample_at(data, start, step, b);
+    let mut v = sample_at(data, start, step, i + 1);
+    let mut rises = sample_at(data, start, step, i) < v;
+    let mut at = i + 1;
     while at < last {
         let next = at + 1;
         let w = sample_at(data, start, step, next);
         let turned = turns(rises, v, w);
         if is_told(turned, swing_of(value, v), least) {
-            return NextRun::Of(a, at);
+            return a;
         }
         a = first_of(turned, at, a);
         value = value_of(turned, v, value);
@@ -198,33 +209,7 @@ fn steep_run(
         v = w;
         at = next;
     }
-    NextRun::Of(a, at)
-}
-
-// The next run of a line, from the one that starts at sample a on, that changes by at least `least`; or the last one. The first is
-// followed with branches, which are guessed well where runs are long or alike; past a small one there may be many more of them.
-fn next_run(data: &[u8], start: usize, step: usize, last: usize, a: usize, least: u8) -> NextRun
-    requires { ⌜ (a < last) × (start + last * step < length (now «data»)) ⌝ }
-    ensures { λ r. ⌜ RunTo (sample (now («data» .entry)) start step) least last a r ⌝ }
-{
-    let i = level_end(data, start, step, last, a);
-    if last <= i {
-        return NextRun::End;
-    }
-    let slope = amplitude(
-        sample_at(data, start, step, i),
-        sample_at(data, start, step, i + 1),
-    );
-    let b = slope_end(data, start, step, last, i + 1, slope);
-    if least
-        <= swing_of(
-            sample_at(data, start, step, a),
-            sample_at(data, start, step, b),
-        )
-    {
-        return NextRun::Of(a, b);
-    }
-    steep_run(data, start, step, last, a, b, 0 < slope, least)
+    a
 }
 
 fn scaled(s: Swing, pixel: f64) -> Swing
@@ -256,13 +241,13 @@ fn next_on_line(
     let last = n - 1;
     let mut a = from;
     while a < last {
-        let NextRun::Of(first, b) = next_run(data, start, step, last, a, minimum_amplitude) else {
+        let RunEnd::At(b) = run_end(data, start, step, last, a) else {
             return OnLine::End;
         };
-        if let Rise::Found(s) = rise_of(data, start, step, first, b, minimum_amplitude) {
+        if let Rise::Found(s) = rise_of(data, start, step, a, b, minimum_amplitude) {
             return OnLine::Next(scaled(s, pixel), b);
         }
-        a = b;
+        a = steep_from(data, start, step, last, b, minimum_amplitude);
     }
     OnLine::End
 }

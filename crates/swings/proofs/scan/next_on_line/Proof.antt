@@ -3,12 +3,12 @@ use mathlib.Core.Path.{_≡_, refl, sym, _∙_}
 use Prim.Native.Nat.{_-_, _≤_, _^_}
 use native.Mathlib.Omega.{arith}
 use borrow.Author.Needs.{needs}
-use Rattle.swings.specs.declared.scan.NextRun.the-variants.{Of}
+use Rattle.swings.specs.declared.scan.RunEnd.the-variants.{At}
 use Rattle.swings.specs.Line.{sample}
 use Rattle.swings.specs.Swings.{lineSwings}
 use Rattle.swings.specs.Scan.{RunTo}
 use Rattle.swings.proofs.Line.{sample-within}
-use Rattle.swings.proofs.LineSwings.{swings-short, swings-end, swings-level, swings-found, swings-nothing}
+use Rattle.swings.proofs.LineSwings.{swings-short, swings-end, swings-level, swings-found, swings-nothing, swings-from}
 use Rattle.swings.proofs.scan.next_on_line.Statement.{statement}
 use Rattle.swings.proofs.scan.next_on_line.Tie as tie
 
@@ -31,11 +31,11 @@ sub-last c = omega arith
 loop-holds : tie.Need-loop-holds Inv-loop μ-loop
 loop-holds c = refl
 
-next-run-requires : tie.Need-next-run-requires Inv-loop μ-loop
-next-run-requires c κs = (c .loop-test .taken, c .before .before .before .before .pre .1)
+run-end-requires : tie.Need-run-end-requires Inv-loop μ-loop
+run-end-requires c κs = (c .loop-test .taken, c .before .before .before .before .pre .1)
 
-enum-known-first : tie.Need-enum-known-first Inv-loop μ-loop
-enum-known-first c = search needs
+enum-known-b : tie.Need-enum-known-b Inv-loop μ-loop
+enum-known-b c = search needs
 
 enum-told : tie.Need-enum-told Inv-loop μ-loop
 enum-told c = search needs
@@ -45,21 +45,21 @@ returns-2 c =
     let l = c .before .before .before .before in
     let a = l .before .before .before .args in
     l .loop .inv
-    ∙ swings-level (a .minimum-amplitude) (a .pixel) (sample (a .«data» .now) (a .start) (a .step)) (a .n) (l .loop .a) (l .before .if1 .left) (rw (c .enum-told .given .1) at (c .before .before .next-run .ensures))
+    ∙ swings-level (a .minimum-amplitude) (a .pixel) (sample (a .«data» .now) (a .start) (a .step)) (a .n) (l .loop .a) (l .before .if1 .left) (rw (c .enum-told .given .1) at (c .before .before .run-end .ensures))
 
 -- the run that was found
 ran : (c : tie.After-known-told Inv-loop μ-loop)
     → let l = c .before .before .before .before .before in let a = l .before .before .before .args in
-    RunTo (sample (a .«data» .now) (a .start) (a .step)) (a .minimum-amplitude) (a .n - 1) (l .loop .a) (Of (c .before .first .given .0 .0) (c .before .first .given .0 .1 .0))
-ran c = rw (c .before .first .given .1) at (c .before .before .before .next-run .ensures)
+    RunTo (sample (a .«data» .now) (a .start) (a .step)) (a .n - 1) (l .loop .a) (At (c .before .b .given .0 .0))
+ran c = rw (c .before .b .given .1) at (c .before .before .before .run-end .ensures)
 
 rise-of-requires : tie.Need-rise-of-requires Inv-loop μ-loop
 rise-of-requires c κs =
     let s = c .before .before .before .before .before .before .before .before in
-    let b = c .before .first .given .0 .1 .0 in
+    let b = c .before .b .given .0 .0 in
     let w = ran c .within in
     let small : s .args .n ≤ 2 ^ 53 = s .pre .0 in
-    (omega arith, omega arith, sample-within (s .args .start) (s .args .step) {i = b} (w .2) (s .pre .1))
+    (omega arith, omega arith, sample-within (s .args .start) (s .args .step) {i = b} (w .1) (s .pre .1))
 
 enum-known-s : tie.Need-enum-known-s Inv-loop μ-loop
 enum-known-s c = search needs
@@ -75,23 +75,28 @@ returns-3 c =
     let a = l .before .before .before .args in
     rw (c .scaled .ensures)
     (l .loop .inv
-    ∙ swings-found (a .minimum-amplitude) (a .pixel) (sample (a .«data» .now) (a .start) (a .step)) (a .n) (l .loop .a) (k .before .first .given .0 .0) (k .before .first .given .0 .1 .0) (l .before .if1 .left) (ran k) (f .s .given .0 .0)
+    ∙ swings-found (a .minimum-amplitude) (a .pixel) (sample (a .«data» .now) (a .start) (a .step)) (a .n) (l .loop .a) (k .before .b .given .0 .0) (l .before .if1 .left) (ran k) (f .s .given .0 .0)
     (sym (f .before .before .rise-of .ensures) ∙ f .s .given .1))
 
 enum-told-2 : tie.Need-enum-told-2 Inv-loop μ-loop
 enum-told-2 c = search needs
 
+steep-from-requires : tie.Need-steep-from-requires Inv-loop μ-loop
+steep-from-requires c κs = let k = c .before .before .before in (ran k .within .1, k .before .before .before .before .before .before .before .before .pre .1)
+
 loop-less : tie.Need-loop-less Inv-loop μ-loop
-loop-less c = let w = ran (c .before .before .before) .within in omega arith
+loop-less c = let w = ran (c .before .before .before .before) .within in omega (arith, w .0, w .1, c .steep-from .ensures .from)
 
 loop-again : tie.Need-loop-again Inv-loop μ-loop
 loop-again c =
-    let k = c .before .before .before in
+    let e = c .before in
+    let k = e .before .before .before in
     let l = k .before .before .before .before .before in
     let a = l .before .before .before .args in
+    let x = sample (a .«data» .now) (a .start) (a .step) in
     l .loop .inv
-    ∙ swings-nothing (a .minimum-amplitude) (a .pixel) (sample (a .«data» .now) (a .start) (a .step)) (a .n) (l .loop .a) (k .before .first .given .0 .0) (k .before .first .given .0 .1 .0) (l .before .if1 .left) (ran k)
-    (sym (c .before .before .rise-of .ensures) ∙ c .enum-told2 .given .1)
+    ∙ swings-nothing (a .minimum-amplitude) (a .pixel) x (a .n) (l .loop .a) (k .before .b .given .0 .0) (l .before .if1 .left) (ran k) (sym (e .before .before .rise-of .ensures) ∙ e .enum-told2 .given .1)
+    ∙ swings-from (a .minimum-amplitude) (a .pixel) x (a .n) (k .before .b .given .0 .0) (c .steep-from .result) (l .before .if1 .left) (c .steep-from .ensures)
 
 returns-4 : tie.Need-returns-4 Inv-loop μ-loop
 returns-4 c =
@@ -109,8 +114,8 @@ next-on-line-spec =
     returns
     sub-last
     loop-holds
-    next-run-requires
-    enum-known-first
+    run-end-requires
+    enum-known-b
     enum-told
     returns-2
     rise-of-requires
@@ -118,6 +123,7 @@ next-on-line-spec =
     scaled-requires
     returns-3
     enum-told-2
+    steep-from-requires
     loop-less
     loop-again
     returns-4)

@@ -1,4 +1,4 @@
--- `swings::scan::next_run` meets its contract: the run is level up to sample i, and from the next one on it rises or falls up to sample b. Assumes nothing.
+-- `swings::scan::run_end` meets its contract: the run is level up to sample i, and from the next one on it rises or falls to its end. Assumes nothing.
 use mathlib.Core.Path.{_≡_, sym, _∙_, ap, ap₂}
 use Prim.Native.Nat.{ℕ, _+_, _-_, _*_, _≤_, _<_}
 use native.Mathlib.Nat.{le-of-lt}
@@ -11,18 +11,11 @@ use mir.Syntax.{w32}
 use mir.Val.{toZ, ofZ}
 use mir.Facts.{toZ-ofZ}
 use Rattle.swings.specs.Line.{sample}
-use Rattle.swings.specs.Runs.{runsFrom, runsUpTo}
-use Rattle.swings.specs.declared.scan.NextRun.{NextRun}
-use Rattle.swings.specs.declared.scan.NextRun.the-variants.{Of}
-use Rattle.swings.specs.Scan.{slopeOf, SlopeEnd, steep, runWithin, SlopeTo}
+use Rattle.swings.specs.Scan.{SlopeEnd}
 use Rattle.swings.proofs.Line.{sample-within}
 use Rattle.swings.proofs.Runs.{change-up, change-small, change-some, level-last, level-slope}
-use Rattle.swings.proofs.scan.next_run.Statement.{statement}
-use Rattle.swings.proofs.scan.next_run.Tie as tie
-
-later : (a b last : ℕ) (r : NextRun) → a < b → runWithin b last r → runWithin (a + 1) last r
-later a b last (Of first d) h w = (w .0, omega (arith, w .1), w .2)
-later a b last NextRun.End h w = tt
+use Rattle.swings.proofs.scan.run_end.Statement.{statement}
+use Rattle.swings.proofs.scan.run_end.Tie as tie
 
 level-end-requires : tie.Need-level-end-requires
 level-end-requires c κs = search needs
@@ -32,7 +25,7 @@ returns c =
     let e = c .before in
     let a = e .before .before .args in
     record {
-      runs = ap (steep (a .least) _) (e .level-end .ensures .runs ∙ level-last (sample (a .«data» .now) (a .start) (a .step)) (a .last) (a .a) (e .level-end .result) (c .if1 .taken));
+      runs = e .level-end .ensures .runs ∙ level-last (sample (a .«data» .now) (a .start) (a .step)) (a .last) (a .a) (e .level-end .result) (c .if1 .taken);
       within = tt;
     }
 
@@ -85,62 +78,24 @@ ended : (c : tie.After-slope-end) → let e = c .before .before .before .before 
     SlopeEnd x (a .last) (i + 1) (ltb (x i) (x (i + 1))) (c .slope-end .result)
 ended c = rw (rising-is (c .before)) at (c .slope-end .ensures)
 
--- the line's runs, with the first one up to there
-begun : (c : tie.After-slope-end) → let e = c .before .before .before .before .before in let a = e .before .before .args in let x = sample (a .«data» .now) (a .start) (a .step) in let i = e .level-end .result in
-    runsUpTo x (a .last) (a .a) ≡ runsFrom x (a .a) (slopeOf (ltb (x i) (x (i + 1)))) (c .slope-end .result) (a .last - c .slope-end .result)
-begun c =
+returns-2 : tie.Need-returns-2
+returns-2 c =
     let l = c .before .before .before .before in
     let e = l .before in
     let a = e .before .before .args in
     let v = e .level-end .ensures in
-    v .runs ∙ level-slope (sample (a .«data» .now) (a .start) (a .step)) (a .last) (a .a) (e .level-end .result) (l .if1 .left) (v .differs (l .if1 .left)) ∙ ended c .same (a .a)
-
-sample-at-requires-3 : tie.Need-sample-at-requires-3
-sample-at-requires-3 c κs = let s = c .before .before .before .before .before .before .before in sample-within (s .args .start) (s .args .step) (le-of-lt (s .pre .0)) (s .pre .1)
-
-sample-at-requires-4 : tie.Need-sample-at-requires-4
-sample-at-requires-4 c κs =
-    let s = c .before .before .before .before .before .before .before .before in
-    sample-within (s .args .start) (s .args .step) (c .before .slope-end .ensures .within) (s .pre .1)
-
-swing-of-requires : tie.Need-swing-of-requires
-swing-of-requires c κs = tt
-
-returns-2 : tie.Need-returns-2
-returns-2 c =
-    let b = c .before .before .before .before in
-    let e = b .before .before .before .before .before in
-    let a = e .before .before .args in
-    let x = sample (a .«data» .now) (a .start) (a .step) in
-    let s = ended b in
+    let r = ended c in
     record {
-      runs = ap (steep (a .least) x) (begun b ∙ s .ends (a .a));
-      within = (omega (arith, e .level-end .ensures .from, s .from), omega (arith, e .level-end .ensures .from, s .from), s .within);
+      runs =
+          v .runs
+          ∙ level-slope (sample (a .«data» .now) (a .start) (a .step)) (a .last) (a .a) (e .level-end .result) (l .if1 .left) (v .differs (l .if1 .left))
+          ∙ r .same (a .a)
+          ∙ r .ends (a .a);
+      within = (omega (arith, v .from, r .from), r .within);
     }
 
-steep-run-requires : tie.Need-steep-run-requires
-steep-run-requires c κs =
-    let b = c .before .before .before .before in
-    let e = b .before .before .before .before .before in
-    let s = ended b in
-    (omega (arith, e .level-end .ensures .from, s .from), s .within, e .before .before .pre .1)
-
-returns-3 : tie.Need-returns-3
-returns-3 c =
-    let b = c .before .before .before .before .before in
-    let d = b .before .before .before in
-    let e = d .before .before in
-    let a = e .before .before .args in
-    let x = sample (a .«data» .now) (a .start) (a .step) in
-    let i = e .level-end .result in
-    let slope : SlopeTo x (a .least) (a .last) (a .a) (b .slope-end .result) (ltb (x i) (x (i + 1))) (c .steep-run .result) = rw (rising-is (b .before)) at (c .steep-run .ensures) in
-    record {
-      runs = ap (steep (a .least) x) (begun b) ∙ slope .runs;
-      within = later (a .a) (b .slope-end .result) (a .last) (c .steep-run .result) (omega (arith, e .level-end .ensures .from, ended b .from)) (slope .within);
-    }
-
-pub next-run-spec : {M : Type 1} → statement M
-next-run-spec =
+pub run-end-spec : {M : Type 1} → statement M
+run-end-spec =
     tie.close
     (tie.spec
     level-end-requires
@@ -151,9 +106,4 @@ next-run-spec =
     amplitude-requires
     add-slope-end
     slope-end-requires
-    sample-at-requires-3
-    sample-at-requires-4
-    swing-of-requires
-    returns-2
-    steep-run-requires
-    returns-3)
+    returns-2)

@@ -1,14 +1,14 @@
 -- A pass over any list of swings counts, for each digit, the keys that stay and have that digit below the prefix; and it counts how many records it counted.
 use mathlib.Core.Path.{_≡_, refl, sym, ap, _∙_, subst}
 use mathlib.Core.Bool.{Bool, true, false, cond, _&&_}
-use mathlib.Core.List.{List, [], _∷_, _++_, map}
+use mathlib.Core.List.{List, [], _∷_, map}
 use Prim.Native.Nat.{ℕ, suc, _+_, _*_, _/_, _%_, _^_, _≤_, _<_}
 use native.Mathlib.Nat.{add-zero, add-assoc, mod-lt}
 use native.Mathlib.Omega.{arith}
 use lib.Dec.{eqb, lit<}
 use lib.IntN.{ℤ}
-use lib.ListN.{length, getD, set, take, length-set, length-map}
-use lib.Seq.{getD-set-same, getD-set-other, take-suc}
+use lib.ListN.{length, getD, set, length-set, length-map}
+use lib.Seq.{getD-set-same, getD-set-other}
 use lib.Ieee.{Float, binary64, toBits}
 use lib.Ieee.Bits.{toBits-lt}
 use borrow.Author.Tests.{eq-eqb, ne-eqb, eqb-true, eqb-false}
@@ -146,19 +146,3 @@ tallyAll-is l a cs e n h =
 
 pub passAll-count : (l : List Swing) (a : Pass) → passAll l a .count ≡ a .count + count (λ y. eqb (y / 2 ^ a .shift / 8192) (a .prefix)) (keys (a .strongest) l)
 passAll-count l a = ap (λ (b : Pass). b .count) (passAll-is l a) ∙ ap (a .count +_) (count-keys (a .strongest) (λ y. eqb (y / 2 ^ a .shift / 8192) (a .prefix)) l)
-
--- ---- record by record, for a loop that goes up
-pub passAll-snoc : (l : List Swing) (s : Swing) (a : Pass) → passAll (l ++ (s ∷ [])) a ≡ passed s (passAll l a)
-passAll-snoc [] s a = refl
-passAll-snoc (t ∷ l) s a = passAll-snoc l s (passed t a)
-
-pub tallyAll-snoc : (l : List Swing) (s : Swing) (a : Pass) (cs : List ℕ) → tallyAll (l ++ (s ∷ [])) a cs ≡ tallied s (passAll l a) (tallyAll l a cs)
-tallyAll-snoc [] s a cs = refl
-tallyAll-snoc (t ∷ l) s a cs = tallyAll-snoc l s (passed t a) (tallied t a cs)
-
-pub passAll-next : (l : List Swing) (i : ℕ) (d : Swing) (a : Pass) → i < length l → passAll (take (suc i) l) a ≡ passed (getD l i d) (passAll (take i l) a)
-passAll-next l i d a h = ap (λ (m : List Swing). passAll m a) (take-suc l i d h) ∙ passAll-snoc (take i l) (getD l i d) a
-
-pub tallyAll-next : (l : List Swing) (i : ℕ) (d : Swing) (a : Pass) (cs : List ℕ) → i < length l
-    → tallyAll (take (suc i) l) a cs ≡ tallied (getD l i d) (passAll (take i l) a) (tallyAll (take i l) a cs)
-tallyAll-next l i d a cs h = ap (λ (m : List Swing). tallyAll m a cs) (take-suc l i d h) ∙ tallyAll-snoc (take i l) (getD l i d) a cs

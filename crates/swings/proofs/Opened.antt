@@ -1,10 +1,9 @@
 -- A scan at a place: where the open line stands in the bytes, and the swings from there on, from what the scan of the open line says.
-use mathlib.Core.Path.{_≡_, refl, sym, _∙_, ap, ap₂, subst}
+use mathlib.Core.Path.{_≡_, refl, sym, _∙_, ap, ap₂}
 use mathlib.Core.List.{List, [], _∷_}
-use Prim.Native.Nat.{ℕ, suc, _+_, _-_, _*_, _^_, _≤_, _<_}
+use Prim.Native.Nat.{ℕ, _+_, _-_, _*_, _^_, _≤_, _<_}
 use native.Mathlib.Omega.{arith}
 use native.Mathlib.Decide.{decLt}
-use lib.Ieee.{Float}
 use lib.ListN.{length}
 use borrow.Author.Tests.{lt-ltb, le-ltb}
 use Rattle.raster.specs.declared.direction.RasterDirection4.{RasterDirection4}
@@ -18,7 +17,7 @@ use Rattle.swings.specs.declared.scan.OnLine.the-variants.{Next, End}
 use Rattle.swings.specs.Line.{Lines, sample, linesOn, InCourse}
 use Rattle.swings.specs.Swings.{lineSwings, swingsFrom}
 use Rattle.swings.specs.Scan.{saidOnLine, lineOn, Open, swingsAt}
-use Rattle.swings.proofs.Line.{line-below, line-is, line-within, sample-is}
+use Rattle.swings.proofs.Line.{line-is, line-within, sample-is}
 use Rattle.swings.proofs.LineSwings.{swings-short, lines-none, lines-next, lines-found}
 use Rattle.swings.proofs.SameSwings.{said-same}
 

@@ -1,7 +1,7 @@
 -- `length::estimate_along` meets its contract: a walk of its MIR, by hand. A refusal returns from a branch; else the borrow of the records is opened once, and their memory lent to `fill` as a `&mut [T]` and to `select` as a `&[T]`.
 -- Assumes nothing.
 use mathlib.Core.Path.{_≡_, refl, sym, _∙_, ap, subst}
-use Prim.Native.Nat.{ℕ, _≤_, _<_, _^_}
+use Prim.Native.Nat.{ℕ, _≤_, _<_}
 use mathlib.Core.Bool.{Bool, true, false, not}
 use mathlib.Core.List.{[], _∷_, List}
 use lib.Dec.{T, eqb}

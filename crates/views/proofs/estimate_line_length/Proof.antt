@@ -51,7 +51,6 @@ use Rattle.raster.specs.Direction.{fromAngle}
 use Rattle.image.specs.declared.view.Gray8View.{Gray8View}
 use Rattle.image.proofs.view.Gray8View as T0
 use Rattle.image.proofs.view.Gray8View.Laws as T0′
-use Rattle.swings.specs.declared.Swing.{Swing}
 use Rattle.swings.proofs.Swing as T1
 use Rattle.swings.proofs.Swing.Laws as T1′
 use Rattle.blur.specs.declared.length.LengthAnswer.{LengthAnswer}

@@ -53,7 +53,6 @@ use Rattle.image.proofs.view.Gray8View.Laws as T0′
 use Rattle.blur.specs.declared.length.LineLengthConfig.{LineLengthConfig}
 use Rattle.blur.proofs.length.LineLengthConfig as T1
 use Rattle.blur.proofs.length.LineLengthConfig.Laws as T1′
-use Rattle.swings.specs.declared.Swing.{Swing}
 use Rattle.swings.proofs.Swing as T2
 use Rattle.swings.proofs.Swing.Laws as T2′
 use Rattle.blur.specs.declared.length.LengthAnswer.{LengthAnswer}

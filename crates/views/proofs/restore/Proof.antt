@@ -54,7 +54,6 @@ use Rattle.image.proofs.view.Gray8ViewMut.Laws as T1′
 use Rattle.job.specs.declared.JobConfig.{JobConfig}
 use Rattle.job.proofs.JobConfig as T2
 use Rattle.job.proofs.JobConfig.Laws as T2′
-use Rattle.swings.specs.declared.Swing.{Swing}
 use Rattle.swings.proofs.Swing as T3
 use Rattle.swings.proofs.Swing.Laws as T3′
 use Rattle.job.specs.declared.JobAnswer.{JobAnswer}

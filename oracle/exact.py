@@ -1,9 +1,10 @@
 #!/usr/bin/env python3
 """Holds the whole job to document 01's exact run, in fractions of Python's own.
 
-Small random jobs go through the C interface (smear_restore, then smear_van_cittert_estimate for every k up to the iterations). The exact run is
-computed here from the document's words alone: N(k+1) = S * Nk + q * (L * S^k * B - window sum of Nk). Every estimate and every destination byte
-must lie within demand 3's bounds; the largest error / bound seen is printed for each k.
+Small random jobs go through the C interface (smear_restore, then smear_van_cittert_estimate for every k up to the
+iterations). The exact run is computed here from the document's words alone:
+N(k+1) = S * Nk + q * (L * S^k * B - window sum of Nk). Every estimate and every destination byte must lie within
+demand 3's bounds; the largest error / bound seen is printed for each k.
 
 Usage: oracle/exact.py [--seed N] [--count N]     (after rt staticlib smear_c)
 """
@@ -30,7 +31,8 @@ def library():
     archive = os.path.join(ROOT, "target/staticlib/libsmear_c.a")
     shared = os.path.join(ROOT, "target/oracle/libsmear_c.so")
     os.makedirs(os.path.dirname(shared), exist_ok=True)
-    subprocess.run(["cc", "-shared", "-o", shared, "-Wl,--whole-archive", archive, "-Wl,--no-whole-archive"], check=True)
+    whole = ["-Wl,--whole-archive", archive, "-Wl,--no-whole-archive"]
+    subprocess.run(["cc", "-shared", "-o", shared, *whole], check=True)
     lib = ctypes.CDLL(shared)
     lib.smear_restore.restype = lib.smear_van_cittert_estimate.restype = ctypes.c_uint8
     return lib
@@ -98,7 +100,11 @@ def main():
         w, h = rng.randint(3, 14), rng.randint(3, 14)
         bar, axis = rng.randint(2, 5), rng.randrange(4)
         dx, dy = [(0, 1), (1, -1), (1, 0), (1, 1)][axis]
-        picture = bytes(min(255, max(0, (200 if (x * dx + y * dy) // bar % 2 else 40) + rng.randint(-40, 40))) for y in range(h) for x in range(w))
+        picture = bytes(
+            min(255, max(0, (200 if (x * dx + y * dy) // bar % 2 else 40) + rng.randint(-40, 40)))
+            for y in range(h)
+            for x in range(w)
+        )
         iterations = rng.randint(1, 6)
         relaxation = rng.choice([1.0, 1.0, 0.5, 0.1, rng.random(), 65535 / 65536])
         border, value = rng.randrange(3), rng.randrange(256)
@@ -109,8 +115,10 @@ def main():
         direction, blur_length, estimate = ctypes.c_uint8(9), ctypes.c_size_t(0), ctypes.c_double(0)
         z, d = ctypes.c_size_t, ctypes.c_double
         code = lib.smear_restore(
-            picture, z(size), z(w), z(h), z(w), dst, z(size), z(w), z(h), z(w), z(1 + rng.randrange(4)), ctypes.c_uint8(24), z(iterations), d(relaxation),
-            ctypes.c_uint8(border), ctypes.c_uint8(value), scratch, z(3 * size), swings, z(size),
+            picture, z(size), z(w), z(h), z(w), dst, z(size), z(w), z(h), z(w),
+            z(1 + rng.randrange(4)), ctypes.c_uint8(24),
+            z(iterations), d(relaxation), ctypes.c_uint8(border), ctypes.c_uint8(value),
+            scratch, z(3 * size), swings, z(size),
             ctypes.byref(direction), ctypes.byref(blur_length), ctypes.byref(estimate))
         if code:
             refused[code] = refused.get(code, 0) + 1
@@ -123,19 +131,22 @@ def main():
             estimates = (ctypes.c_int32 * size)()
             used = ctypes.c_uint8(9)
             code = lib.smear_van_cittert_estimate(
-                picture, z(size), z(w), z(h), z(w), estimates, z(size), d(ANGLES[direction.value]), z(length), z(k), d(relaxation),
-                ctypes.c_uint8(border), ctypes.c_uint8(value), scratch, z(3 * size), ctypes.byref(used))
+                picture, z(size), z(w), z(h), z(w), estimates, z(size),
+                d(ANGLES[direction.value]), z(length), z(k), d(relaxation),
+                ctypes.c_uint8(border), ctypes.c_uint8(value),
+                scratch, z(3 * size), ctypes.byref(used))
             assert code == 0 and used.value == direction.value
             bound = 2**k - 1 if q == 65536 else 2 ** (k + 1) - 2
             for (x, y), v in exact[k - 1].items():
-                error = abs(estimates[y * w + x] - v)
+                found = estimates[y * w + x]
+                error = abs(found - v)
                 if error >= bound:
-                    sys.exit(f"estimate after {k} at ({x}, {y}): {estimates[y * w + x]}, exact {float(v)}, bound {bound}")
+                    sys.exit(f"estimate after {k} at ({x}, {y}): {found}, exact {float(v)}, bound {bound}")
                 key = (k, q == 65536)
                 worst[key] = max(worst.get(key, 0), error / bound)
                 if k == iterations:
                     byte = dst[y * w + x]
-                    assert byte == min(255, max(0, estimates[y * w + x]))
+                    assert byte == min(255, max(0, found))
                     if abs(byte - min(Fraction(255), max(Fraction(0), v))) >= bound:
                         sys.exit(f"byte at ({x}, {y}): {byte}, exact {float(v)}")
     print(f"exact: {accepted} jobs within the bounds; refused {dict(sorted(refused.items()))}")

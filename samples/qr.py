@@ -104,7 +104,8 @@ def format_modules(mask):
 
 
 def data_places():
-    """Where the codewords' bits stand: two columns at a time from the right, up and down in turn, the timing column skipped."""
+    """Where the codewords' bits stand: two columns at a time from the right, up and down in turn, the timing column
+    skipped."""
     taken = fixed_modules().keys() | format_modules(0).keys()
     places = []
     for turn, right in enumerate([20, 18, 16, 14, 12, 10, 8, 5, 3, 1]):
@@ -129,7 +130,11 @@ def penalty(symbol):
             runs = "".join(a + (" " if a != b else "") for a, b in zip(text, text[1:] + "!")).split()
             total += sum(len(run) - 2 for run in runs if len(run) >= 5)
             total += 40 * sum(text[i:].startswith(("#.###.#....", "....#.###.#")) for i in range(SIDE))
-    total += 3 * sum(symbol[r][c] == symbol[r + 1][c] == symbol[r][c + 1] == symbol[r + 1][c + 1] for r in range(SIDE - 1) for c in range(SIDE - 1))
+    total += 3 * sum(
+        symbol[r][c] == symbol[r + 1][c] == symbol[r][c + 1] == symbol[r + 1][c + 1]
+        for r in range(SIDE - 1)
+        for c in range(SIDE - 1)
+    )
     dark = sum(map(sum, symbol))
     return total + 10 * (abs(20 * dark - 10 * SIDE * SIDE) // (SIDE * SIDE))
 

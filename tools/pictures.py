@@ -224,4 +224,6 @@ def write(path, picture):
 
 
 def add_crop(parser):
-    parser.add_argument("--crop", type=int, nargs=4, metavar=("X", "Y", "W", "H"), help="only the W by H pixels whose first is (X, Y)")
+    parser.add_argument(
+        "--crop", type=int, nargs=4, metavar=("X", "Y", "W", "H"), help="only the W by H pixels whose first is (X, Y)"
+    )

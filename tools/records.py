@@ -117,7 +117,8 @@ def line_faults(record):
 
 
 def binomial_faults(record):
-    if record != Record(record.width, record.height, BINOMIAL) or not (is_zero(record.angle) and is_zero(record.estimate)):
+    plain = Record(record.width, record.height, BINOMIAL)
+    if record != plain or not (is_zero(record.angle) and is_zero(record.estimate)):
         yield 13, "the binomial has 0 in all behind height but filter"
 
 
@@ -162,13 +163,18 @@ def read(data):
 def add_options(parser):
     """The options of a job, but for the picture's size."""
     parser.add_argument("--filter", choices=FILTERS, default="restoration", help="default: restoration")
-    parser.add_argument("--length", type=int, metavar="L", help="blur length, odd, from 3; without it restoration is the whole job, which measures direction and length")
+    parser.add_argument(
+        "--length", type=int, metavar="L",
+        help="blur length, odd, from 3; without it restoration is the whole job, which measures direction and length",
+    )
     parser.add_argument("--angle", type=float, metavar="RADIANS", help="the smear's angle, with a length (default 0)")
     parser.add_argument("--iterations", type=int, metavar="N", help="restoration: 1 to 22 (default 3)")
     parser.add_argument("--relaxation", type=float, metavar="R", help="restoration: 0 to 1 (default 1)")
     parser.add_argument("--gain", type=float, metavar="G", help="line unsharp: 0 to 8 (default 1.5)")
     parser.add_argument("--border", choices=BORDERS, help="what lies beyond a line's ends (default replicate)")
-    parser.add_argument("--border-value", type=int, metavar="V", help="grey level of the constant border, 0 to 255 (default 0)")
+    parser.add_argument(
+        "--border-value", type=int, metavar="V", help="grey level of the constant border, 0 to 255 (default 0)"
+    )
 
 
 # the options that each filter takes
@@ -181,7 +187,8 @@ TAKEN = {
 
 def from_options(options, width, height):
     """The job that the options ask for; a ValueError where they do not fit together."""
-    given = {name: value for name, value in vars(options).items() if name in sum(TAKEN.values(), []) and value is not None}
+    known = sum(TAKEN.values(), [])
+    given = {name: value for name, value in vars(options).items() if name in known and value is not None}
     for name in given.keys() - set(TAKEN[options.filter]):
         raise ValueError(f"--{name.replace('_', '-')} has no meaning with --filter {options.filter}")
     if options.filter == "unsharp" and "length" not in given:
@@ -230,13 +237,18 @@ def kind_words(record):
 
 def words(record):
     """The record, a line for each thing that it says."""
-    lines = [kind_words(record), f"  picture    {record.width} by {record.height} pixels", f"  filter     {filter_words(record)}"]
+    lines = [
+        kind_words(record),
+        f"  picture    {record.width} by {record.height} pixels",
+        f"  filter     {filter_words(record)}",
+    ]
     if record.filter != BINOMIAL:
         value = f" {record.border_value}" if record.border == BORDERS.index("constant") else ""
         lines.append(f"  border     {BORDERS[record.border]}{value}")
     if record.length:
         direction = from_angle(record.angle) if record.is_job() else record.direction
-        lines.append(f"  direction  {DIRECTIONS[direction]}" + (f", from the angle {record.angle!r}" if record.angle else ""))
+        angle = f", from the angle {record.angle!r}" if record.angle else ""
+        lines.append(f"  direction  {DIRECTIONS[direction]}{angle}")
         lines.append(f"  length     {record.length}")
     if not is_zero(record.estimate):
         lines.append(f"  estimate   {record.estimate!r} pixels")

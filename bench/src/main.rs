@@ -1,6 +1,6 @@
 //! ns per pixel (and iteration, where there are some) of the proved library and of the Rust original, and their ratio.
-//! Each row is the least of several rounds in which the two take turns. Buffers are warm and not cleared between runs. Time is
-//! that of the thread, so that of other work on the machine only what it does to the caches counts.
+//! Each row is the least of several rounds in which the two take turns. Buffers are warm and not cleared between runs.
+//! Time is that of the thread, so that of other work on the machine only what it does to the caches counts.
 
 #[allow(dead_code)]
 #[path = "../../bindings/src/raw.rs"]
@@ -85,7 +85,13 @@ fn main() {
     let mut other = vec![0u8; PIXELS];
     println!("{:<44} {:>8} {:>8} {:>8}", "ns a pixel (and iteration)", "ours", "Rust", "ratio");
 
-    row(&only, "copy of the bytes", PIXELS, || dst.copy_from_slice(black_box(&pictures[0].1)), || other.copy_from_slice(black_box(&pictures[0].1)));
+    row(
+        &only,
+        "copy of the bytes",
+        PIXELS,
+        || dst.copy_from_slice(black_box(&pictures[0].1)),
+        || other.copy_from_slice(black_box(&pictures[0].1)),
+    );
     for (kind, data) in &pictures {
         let view = Gray8View::new(data, SIDE, SIDE, SIDE).unwrap();
         row(
@@ -112,7 +118,8 @@ fn main() {
         PIXELS,
         || unsafe {
             smear_fixed_binomial_unsharp(
-                data.as_ptr(), PIXELS, SIDE, SIDE, SIDE, dst.as_mut_ptr(), PIXELS, SIDE, SIDE, SIDE, scratch.as_mut_ptr(), PIXELS,
+                data.as_ptr(), PIXELS, SIDE, SIDE, SIDE, dst.as_mut_ptr(), PIXELS, SIDE, SIDE, SIDE,
+                scratch.as_mut_ptr(), PIXELS,
             );
         },
         || {
@@ -126,17 +133,24 @@ fn main() {
 }
 
 const DIRECTIONS: [(&str, f64); 4] = [("Horizontal", 0.0), ("DownRight", 0.75), ("Vertical", 1.5), ("DownLeft", 2.25)];
-const BORDERS: [(&str, LineBorderMode); 3] = [("Replicate", LineBorderMode::Replicate), ("Reflect", LineBorderMode::Reflect), ("Constant", LineBorderMode::Constant(128))];
+const BORDERS: [(&str, LineBorderMode); 3] = [
+    ("Replicate", LineBorderMode::Replicate),
+    ("Reflect", LineBorderMode::Reflect),
+    ("Constant", LineBorderMode::Constant(128)),
+];
 
-/// The length of a smear, in each direction: of a label with and without noise, of noise, of a ramp, whose lines are one run each, and of
-/// stripes, which give the most swings that a picture can have.
+/// The length of a smear, in each direction: of a label with and without noise, of noise, of a ramp, whose lines are
+/// one run each, and of stripes, which give the most swings that a picture can have.
 fn lengths(only: &str, pictures: &[(&str, Vec<u8>); 2]) {
     let clean = label(&mut Random::new(1), 1);
     let ramp: Vec<u8> = (0..PIXELS).map(|place| (place % SIDE / 4) as u8).collect();
-    let stripes: Vec<u8> = (0..PIXELS).map(|place| if (place % SIDE + place / SIDE * 2) % 4 < 2 { 255 } else { 0 }).collect();
+    let stripes: Vec<u8> =
+        (0..PIXELS).map(|place| if (place % SIDE + place / SIDE * 2) % 4 < 2 { 255 } else { 0 }).collect();
     let mut swings = vec![Swing { width: 0.0, swing: 0 }; PIXELS];
     let [(_, label), (_, noise)] = pictures;
-    for (kind, data) in [("label", label), ("clean label", &clean), ("noise", noise), ("ramp", &ramp), ("stripes", &stripes)] {
+    for (kind, data) in
+        [("label", label), ("clean label", &clean), ("noise", noise), ("ramp", &ramp), ("stripes", &stripes)]
+    {
         let view = Gray8View::new(data, SIDE, SIDE, SIDE).unwrap();
         for (direction, angle) in DIRECTIONS {
             row(
@@ -145,7 +159,10 @@ fn lengths(only: &str, pictures: &[(&str, Vec<u8>); 2]) {
                 PIXELS,
                 || unsafe {
                     let mut length = 0.0;
-                    smear_estimate_line_length(data.as_ptr(), PIXELS, SIDE, SIDE, SIDE, angle, 8, 24, swings.as_mut_ptr(), PIXELS, &mut length);
+                    smear_estimate_line_length(
+                        data.as_ptr(), PIXELS, SIDE, SIDE, SIDE, angle, 8, 24,
+                        swings.as_mut_ptr(), PIXELS, &mut length,
+                    );
                     black_box(length);
                 },
                 || {
@@ -165,7 +182,8 @@ fn restorations(only: &str, data: &[u8], dst: &mut [u8], other: &mut [u8]) {
     for (number, (border_name, border)) in BORDERS.into_iter().enumerate() {
         for (direction, angle) in DIRECTIONS {
             for (length, iterations, relaxation) in [(9, 3, 1.0), (31, 10, 1.0), (31, 10, 0.7), (255, 3, 1.0)] {
-                let config = VanCittertConfig { theta_radians: angle, blur_length: length, iterations, relaxation, border };
+                let config =
+                    VanCittertConfig { theta_radians: angle, blur_length: length, iterations, relaxation, border };
                 row(
                     only,
                     &format!("restore {length} x{iterations} at {relaxation}, {direction}, {border_name}"),
@@ -173,7 +191,8 @@ fn restorations(only: &str, data: &[u8], dst: &mut [u8], other: &mut [u8]) {
                     || unsafe {
                         smear_van_cittert_line(
                             data.as_ptr(), PIXELS, SIDE, SIDE, SIDE, dst.as_mut_ptr(), PIXELS, SIDE, SIDE, SIDE,
-                            angle, length, iterations, relaxation, number as u8, 128, scratch.as_mut_ptr(), scratch.len(), &mut used,
+                            angle, length, iterations, relaxation, number as u8, 128,
+                            scratch.as_mut_ptr(), scratch.len(), &mut used,
                         );
                     },
                     || {
@@ -216,8 +235,10 @@ fn whole_jobs(only: &str, data: &[u8], dst: &mut [u8], other: &mut [u8]) {
             || unsafe {
                 let (mut direction, mut length, mut estimate) = (0, 0, 0.0);
                 smear_restore(
-                    data.as_ptr(), PIXELS, SIDE, SIDE, SIDE, dst.as_mut_ptr(), PIXELS, SIDE, SIDE, SIDE, 8, 24, iterations, 1.0, 0, 0,
-                    scratch.as_mut_ptr(), scratch.len(), swings.as_mut_ptr(), swings.len(), &mut direction, &mut length, &mut estimate,
+                    data.as_ptr(), PIXELS, SIDE, SIDE, SIDE, dst.as_mut_ptr(), PIXELS, SIDE, SIDE, SIDE,
+                    8, 24, iterations, 1.0, 0, 0,
+                    scratch.as_mut_ptr(), scratch.len(), swings.as_mut_ptr(), swings.len(),
+                    &mut direction, &mut length, &mut estimate,
                 );
                 black_box((direction, length, estimate));
             },
@@ -225,7 +246,13 @@ fn whole_jobs(only: &str, data: &[u8], dst: &mut [u8], other: &mut [u8]) {
                 let theta_radians = blur::estimate_line_direction(view).theta_radians;
                 let length = blur::estimate_line_length(view, theta_radians).unwrap();
                 let blur_length = (length.ceil() as usize | 1).max(3);
-                let config = VanCittertConfig { theta_radians, blur_length, iterations, relaxation: 1.0, border: LineBorderMode::Replicate };
+                let config = VanCittertConfig {
+                    theta_radians,
+                    blur_length,
+                    iterations,
+                    relaxation: 1.0,
+                    border: LineBorderMode::Replicate,
+                };
                 let view_mut = Gray8ViewMut::new(other, SIDE, SIDE, SIDE).unwrap();
                 deblur::van_cittert_line_into(view, view_mut, &config, &mut workspace).unwrap();
             },

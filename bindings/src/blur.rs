@@ -82,8 +82,13 @@ pub fn estimate_line_length(src: Gray8View<'_>, theta_radians: f64) -> Option<f6
 /// Like [`estimate_line_length`], with thresholds.
 pub fn estimate_line_length_with(src: Gray8View<'_>, theta_radians: f64, config: &LineLengthConfig) -> Option<f64> {
     let mut swings = vec![Swing::default(); src.width() * src.height()];
-    let (refusal, length) =
-        ffi::estimate_line_length(src, theta_radians, config.minimum_transitions, config.minimum_amplitude, &mut swings);
+    let (refusal, length) = ffi::estimate_line_length(
+        src,
+        theta_radians,
+        config.minimum_transitions,
+        config.minimum_amplitude,
+        &mut swings,
+    );
     assert_eq!(refusal, 0, "a view has an accepted layout, and there are swings for every pixel");
     // the header's 0.0 is none: a length is positive
     (length > 0.0).then_some(length)

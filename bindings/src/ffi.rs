@@ -1,5 +1,5 @@
-//! crates/smear_c/include/smear.h, with slices in place of pointers. All `unsafe` of the crate is here: each call passes a slice as its
-//! pointer and length and writes to nothing else, which is what the header asks.
+//! crates/smear_c/include/smear.h, with slices in place of pointers. All `unsafe` of the crate is here: each call
+//! passes a slice as its pointer and length and writes to nothing else, which is what the header asks.
 
 use crate::raw::{self, Swing};
 use crate::view::{Gray8View, Gray8ViewMut};
@@ -31,7 +31,13 @@ pub fn estimate_line_direction(src: Gray8View<'_>) -> (u8, u8, [i64; 3]) {
 }
 
 /// The refusal, and the length: 0.0 for none.
-pub fn estimate_line_length(src: Gray8View<'_>, angle: f64, transitions: usize, amplitude: u8, swings: &mut [Swing]) -> (u8, f64) {
+pub fn estimate_line_length(
+    src: Gray8View<'_>,
+    angle: f64,
+    transitions: usize,
+    amplitude: u8,
+    swings: &mut [Swing],
+) -> (u8, f64) {
     let mut length = 0.0;
     let refusal = unsafe {
         raw::smear_estimate_line_length(
@@ -83,7 +89,12 @@ pub fn van_cittert_estimate(src: Gray8View<'_>, dst: &mut [i32], f: Filter, scra
 }
 
 /// The refusal and the direction. The filter's iterations are not read.
-pub fn directional_unsharp_line(src: Gray8View<'_>, mut dst: Gray8ViewMut<'_>, f: Filter, scratch: &mut [i32]) -> (u8, u8) {
+pub fn directional_unsharp_line(
+    src: Gray8View<'_>,
+    mut dst: Gray8ViewMut<'_>,
+    f: Filter,
+    scratch: &mut [i32],
+) -> (u8, u8) {
     let (width, height, stride) = (dst.width(), dst.height(), dst.stride());
     let mut direction = 0;
     let refusal = unsafe {

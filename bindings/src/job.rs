@@ -24,7 +24,13 @@ pub struct JobConfig {
 
 impl Default for JobConfig {
     fn default() -> Self {
-        Self { minimum_transitions: 8, minimum_amplitude: 24, iterations: 3, relaxation: 1.0, border: LineBorderMode::Replicate }
+        Self {
+            minimum_transitions: 8,
+            minimum_amplitude: 24,
+            iterations: 3,
+            relaxation: 1.0,
+            border: LineBorderMode::Replicate,
+        }
     }
 }
 
@@ -47,11 +53,21 @@ pub struct JobWorkspace {
 }
 
 /// Measures the smear of a picture and takes it out.
-pub fn restore(src: Gray8View<'_>, dst: Gray8ViewMut<'_>, config: &JobConfig, workspace: &mut JobWorkspace) -> ImgProcResult<JobResult> {
+pub fn restore(
+    src: Gray8View<'_>,
+    dst: Gray8ViewMut<'_>,
+    config: &JobConfig,
+    workspace: &mut JobWorkspace,
+) -> ImgProcResult<JobResult> {
     workspace.swings.resize(src.width() * src.height(), Swing::default());
     let thresholds = (config.minimum_transitions, config.minimum_amplitude);
-    let filter =
-        Filter { angle: 0.0, blur_length: 0, iterations: config.iterations, factor: config.relaxation, border: config.border.number() };
+    let filter = Filter {
+        angle: 0.0,
+        blur_length: 0,
+        iterations: config.iterations,
+        factor: config.relaxation,
+        border: config.border.number(),
+    };
     let (refusal, (direction, blur_length, estimate)) =
         ffi::restore(src, dst, thresholds, filter, workspace.deblur.scratch(src), &mut workspace.swings);
     answer(refusal)?;

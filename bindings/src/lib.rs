@@ -1,5 +1,6 @@
-//! The smear stage for Rust: measures the line smear of a grey picture and takes it out. The work is done by the proved library
-//! `libsmear_c`; this crate gives its calls the names and signatures of qr-lab's `qr-lab-image` and `qr-lab-imgproc`.
+//! The smear stage for Rust: measures the line smear of a grey picture and takes it out.
+//! The work is done by the proved library `libsmear_c`; this crate gives its calls the names and signatures of qr-lab's
+//! `qr-lab-image` and `qr-lab-imgproc`.
 //!
 //! A caller of qr-lab changes `use` lines:
 //!
@@ -9,8 +10,8 @@
 //! | `qr_lab_imgproc::{blur, deblur, sharpen}` | `smear::{blur, deblur, sharpen}` |
 //! | `qr_lab_imgproc::{ImgProcError, ImgProcResult}` | `smear::{ImgProcError, ImgProcResult}` |
 //!
-//! Added are [`job::restore`] and [`deblur::van_cittert_estimate_into`]. Sides of more than 1,024 pixels and more than 22 iterations
-//! are refused.
+//! Added are [`job::restore`] and [`deblur::van_cittert_estimate_into`]. Sides of more than 1,024 pixels and more than
+//! 22 iterations are refused.
 
 #![deny(unsafe_code)]
 #![warn(missing_docs)]

@@ -11,7 +11,11 @@ pub struct SharpenWorkspace {
 }
 
 /// Twice the picture less its blur by 1 4 6 4 1 both ways, cut to 0..255.
-pub fn fixed_binomial_unsharp_into(src: Gray8View<'_>, dst: Gray8ViewMut<'_>, workspace: &mut SharpenWorkspace) -> ImgProcResult<()> {
+pub fn fixed_binomial_unsharp_into(
+    src: Gray8View<'_>,
+    dst: Gray8ViewMut<'_>,
+    workspace: &mut SharpenWorkspace,
+) -> ImgProcResult<()> {
     workspace.scratch.resize(src.width() * src.height(), 0);
     answer(ffi::fixed_binomial_unsharp(src, dst, &mut workspace.scratch))
 }

@@ -72,7 +72,8 @@ macro_rules! layout {
 }
 
 impl<'a> Gray8View<'a> {
-    /// Borrow `data` as a picture. `stride` is the number of bytes from one row to the next: `width` where there is no padding.
+    /// Borrow `data` as a picture. `stride` is the number of bytes from one row to the next:
+    /// `width` where there is no padding.
     pub fn new(data: &'a [u8], width: usize, height: usize, stride: usize) -> Result<Self, LumaError> {
         validate_layout(data.len(), width, height, stride)?;
         Ok(Self { data, width, height, stride })

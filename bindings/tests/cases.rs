@@ -1,9 +1,11 @@
 //! Document 01's cases, through the crate.
 
-use smear::blur::{estimate_line_direction, estimate_line_length, estimate_line_length_with, LineLengthConfig, RasterDirection4};
+use smear::blur::{
+    estimate_line_direction, estimate_line_length, estimate_line_length_with, LineLengthConfig, RasterDirection4,
+};
 use smear::deblur::{
-    directional_unsharp_line_into, van_cittert_estimate_into, van_cittert_line_into, DeblurWorkspace, DirectionalUnsharpConfig,
-    LineBorderMode, VanCittertConfig,
+    directional_unsharp_line_into, van_cittert_estimate_into, van_cittert_line_into, DeblurWorkspace,
+    DirectionalUnsharpConfig, LineBorderMode, VanCittertConfig,
 };
 use smear::job::{restore, JobConfig, JobWorkspace};
 use smear::sharpen::{fixed_binomial_unsharp_into, SharpenWorkspace};
@@ -44,7 +46,8 @@ fn direction_from_an_angle() {
 fn direction_from_a_picture() {
     let bytes = ramp();
     let estimate = estimate_line_direction(Gray8View::new(&bytes, 10, 3, 10).unwrap());
-    // rows that are alike have gx alone: 4 times the difference over two columns, 50, 100, 100, 100, 100, 50 of them not 0
+    // rows that are alike have gx alone: 4 times the difference over two columns,
+    // 50, 100, 100, 100, 100, 50 of them not 0
     assert_eq!(estimate.raster_direction, RasterDirection4::Vertical);
     assert_eq!((estimate.a, estimate.c, estimate.e), (16 * (2 * 50 * 50 + 4 * 100 * 100), 0, 0));
 }
@@ -90,8 +93,13 @@ fn borders() {
 fn estimates_are_not_cut_and_the_rest_stays() {
     let mut out = [7; 6];
     let config = VanCittertConfig { iterations: 2, ..VanCittertConfig::default() };
-    let answer =
-        van_cittert_estimate_into(Gray8View::new(&ROW, 5, 1, 5).unwrap(), &mut out, &config, &mut DeblurWorkspace::default()).unwrap();
+    let answer = van_cittert_estimate_into(
+        Gray8View::new(&ROW, 5, 1, 5).unwrap(),
+        &mut out,
+        &config,
+        &mut DeblurWorkspace::default(),
+    )
+    .unwrap();
     assert_eq!(out, [14, -13, 80, -13, 14, 7]);
     assert_eq!(answer.raster_direction, RasterDirection4::Horizontal);
 }
@@ -101,7 +109,8 @@ fn line_unsharp_and_binomial_of_a_row() {
     let src = Gray8View::new(&ROW, 5, 1, 5).unwrap();
     let mut out = [0; 5];
     let dst = Gray8ViewMut::new(&mut out, 5, 1, 5).unwrap();
-    directional_unsharp_line_into(src, dst, &DirectionalUnsharpConfig::default(), &mut DeblurWorkspace::default()).unwrap();
+    directional_unsharp_line_into(src, dst, &DirectionalUnsharpConfig::default(), &mut DeblurWorkspace::default())
+        .unwrap();
     assert_eq!(out, [10, 0, 70, 0, 10]);
     let dst = Gray8ViewMut::new(&mut out, 5, 1, 5).unwrap();
     fixed_binomial_unsharp_into(src, dst, &mut SharpenWorkspace::default()).unwrap();
@@ -118,9 +127,11 @@ fn the_whole_job() {
     let answer = restore(Gray8View::new(&bytes, 10, 3, 10).unwrap(), dst, &JobConfig::default(), &mut workspace);
     assert_eq!(answer, Err(ImgProcError::NoLength));
     assert_eq!(out, [9; 30]);
-    // bars of 12 columns, smeared over 5 columns, whose phase turns half round after each 2 rows: most changes are across the rows
+    // bars of 12 columns, smeared over 5 columns, whose phase turns half round after each 2 rows:
+    // most changes are across the rows
     let bar = |x: usize, y: usize| if (x / 12 + y / 2) % 2 == 0 { 0 } else { 250 };
-    let bytes: Vec<u8> = (0..60 * 60).map(|i| ((0..5).map(|k| bar(i % 60 + k, i / 60)).sum::<u32>() / 5) as u8).collect();
+    let bytes: Vec<u8> =
+        (0..60 * 60).map(|i| ((0..5).map(|k| bar(i % 60 + k, i / 60)).sum::<u32>() / 5) as u8).collect();
     let src = Gray8View::new(&bytes, 60, 60, 60).unwrap();
     let mut whole = vec![0; 60 * 60];
     let dst = Gray8ViewMut::new(&mut whole, 60, 60, 60).unwrap();

@@ -2,8 +2,8 @@
 
 use smear::blur::{estimate_line_length_with, LineLengthConfig, RasterDirection4};
 use smear::deblur::{
-    directional_unsharp_line_into, van_cittert_estimate_into, van_cittert_line_into, DeblurWorkspace, DirectionalUnsharpConfig,
-    VanCittertConfig,
+    directional_unsharp_line_into, van_cittert_estimate_into, van_cittert_line_into, DeblurWorkspace,
+    DirectionalUnsharpConfig, VanCittertConfig,
 };
 use smear::job::{restore, JobConfig, JobWorkspace};
 use smear::sharpen::{fixed_binomial_unsharp_into, SharpenWorkspace};
@@ -34,7 +34,10 @@ fn layouts() {
 }
 
 /// A call on the row, into a destination of the given width; a refusal must leave the destination.
-fn call<T>(width: usize, run: impl FnOnce(Gray8View<'_>, Gray8ViewMut<'_>) -> ImgProcResult<T>) -> Result<(), ImgProcError> {
+fn call<T>(
+    width: usize,
+    run: impl FnOnce(Gray8View<'_>, Gray8ViewMut<'_>) -> ImgProcResult<T>,
+) -> Result<(), ImgProcError> {
     let mut out = vec![77; width];
     let answer = run(Gray8View::new(&BYTES, 5, 1, 5).unwrap(), Gray8ViewMut::new(&mut out, width, 1, width).unwrap());
     assert!(answer.is_ok() || out.iter().all(|&byte| byte == 77), "a refusal changed the destination");
@@ -65,7 +68,10 @@ fn sizes_that_differ() {
     let config = VanCittertConfig::default();
     assert_eq!(call(4, |src, dst| van_cittert_line_into(src, dst, &config, &mut DeblurWorkspace::default())), differ);
     let config = DirectionalUnsharpConfig::default();
-    assert_eq!(call(4, |src, dst| directional_unsharp_line_into(src, dst, &config, &mut DeblurWorkspace::default())), differ);
+    assert_eq!(
+        call(4, |src, dst| directional_unsharp_line_into(src, dst, &config, &mut DeblurWorkspace::default())),
+        differ
+    );
     assert_eq!(call(4, |src, dst| fixed_binomial_unsharp_into(src, dst, &mut SharpenWorkspace::default())), differ);
     assert_eq!(call(4, |src, dst| restore(src, dst, &JobConfig::default(), &mut JobWorkspace::default())), differ);
     assert_eq!(call(5, |src, dst| fixed_binomial_unsharp_into(src, dst, &mut SharpenWorkspace::default())), Ok(()));
@@ -74,13 +80,29 @@ fn sizes_that_differ() {
 #[test]
 fn lengths_and_angles() {
     let invalid = Err(ImgProcError::InvalidConfiguration);
-    for (blur_length, answer) in [(0, invalid), (1, invalid), (2, invalid), (3, Ok(())), (4, invalid), (11, Ok(())), (13, invalid)] {
+    for (blur_length, answer) in
+        [(0, invalid), (1, invalid), (2, invalid), (3, Ok(())), (4, invalid), (11, Ok(())), (13, invalid)]
+    {
         assert_eq!(restoration(VanCittertConfig { blur_length, ..Default::default() }), answer, "length {blur_length}");
-        assert_eq!(unsharp(DirectionalUnsharpConfig { blur_length, ..Default::default() }), answer, "length {blur_length}");
+        assert_eq!(
+            unsharp(DirectionalUnsharpConfig { blur_length, ..Default::default() }),
+            answer,
+            "length {blur_length}"
+        );
     }
-    for (theta_radians, answer) in [(f64::MAX, Ok(())), (f64::NAN, invalid), (f64::INFINITY, invalid), (f64::NEG_INFINITY, invalid)] {
-        assert_eq!(restoration(VanCittertConfig { theta_radians, ..Default::default() }), answer, "angle {theta_radians}");
-        assert_eq!(unsharp(DirectionalUnsharpConfig { theta_radians, ..Default::default() }), answer, "angle {theta_radians}");
+    for (theta_radians, answer) in
+        [(f64::MAX, Ok(())), (f64::NAN, invalid), (f64::INFINITY, invalid), (f64::NEG_INFINITY, invalid)]
+    {
+        assert_eq!(
+            restoration(VanCittertConfig { theta_radians, ..Default::default() }),
+            answer,
+            "angle {theta_radians}"
+        );
+        assert_eq!(
+            unsharp(DirectionalUnsharpConfig { theta_radians, ..Default::default() }),
+            answer,
+            "angle {theta_radians}"
+        );
     }
 }
 
@@ -91,16 +113,28 @@ fn factors_and_iterations() {
     let accepted = Err(ImgProcError::NoLength);
     let many = Err(ImgProcError::TooManyIterations);
     for (iterations, answer) in [(0, invalid), (1, Ok(())), (22, Ok(())), (23, many), (usize::MAX, many)] {
-        assert_eq!(restoration(VanCittertConfig { iterations, ..Default::default() }), answer, "{iterations} iterations");
+        assert_eq!(
+            restoration(VanCittertConfig { iterations, ..Default::default() }),
+            answer,
+            "{iterations} iterations"
+        );
         assert_eq!(job(JobConfig { iterations, ..Default::default() }), if answer.is_ok() { accepted } else { answer });
     }
     let above = f64::from_bits(1.0f64.to_bits() + 1);
-    for (relaxation, answer) in [(-0.0, Ok(())), (1.0, Ok(())), (above, invalid), (-f64::MIN_POSITIVE, invalid), (f64::NAN, invalid)] {
-        assert_eq!(restoration(VanCittertConfig { relaxation, ..Default::default() }), answer, "relaxation {relaxation}");
+    for (relaxation, answer) in
+        [(-0.0, Ok(())), (1.0, Ok(())), (above, invalid), (-f64::MIN_POSITIVE, invalid), (f64::NAN, invalid)]
+    {
+        assert_eq!(
+            restoration(VanCittertConfig { relaxation, ..Default::default() }),
+            answer,
+            "relaxation {relaxation}"
+        );
         assert_eq!(job(JobConfig { relaxation, ..Default::default() }), if answer.is_ok() { accepted } else { answer });
     }
     let above = f64::from_bits(8.0f64.to_bits() + 1);
-    for (gain, answer) in [(-0.0, Ok(())), (8.0, Ok(())), (above, invalid), (-f64::MIN_POSITIVE, invalid), (f64::INFINITY, invalid)] {
+    for (gain, answer) in
+        [(-0.0, Ok(())), (8.0, Ok(())), (above, invalid), (-f64::MIN_POSITIVE, invalid), (f64::INFINITY, invalid)]
+    {
         assert_eq!(unsharp(DirectionalUnsharpConfig { gain, ..Default::default() }), answer, "gain {gain}");
     }
 }
@@ -108,15 +142,17 @@ fn factors_and_iterations() {
 #[test]
 fn a_short_destination_for_estimates() {
     let src = Gray8View::new(&BYTES, 5, 1, 5).unwrap();
-    let run = |out: &mut [i32]| van_cittert_estimate_into(src, out, &VanCittertConfig::default(), &mut DeblurWorkspace::default()).map(drop);
+    let run = |out: &mut [i32]| {
+        van_cittert_estimate_into(src, out, &VanCittertConfig::default(), &mut DeblurWorkspace::default()).map(drop)
+    };
     assert_eq!(run(&mut [0; 5]), Ok(()));
     let mut short = [5; 4];
     assert_eq!(run(&mut short), Err(ImgProcError::DestinationTooSmall));
     assert_eq!(short, [5; 4]);
 }
 
-/// 100 by 100 pixels in stripes along the diagonals, so that the smear is along them. The 7 longest diagonals rise by 60 behind place
-/// `from`, and by 60 at their end: one swing, as wide as all that lies between.
+/// 100 by 100 pixels in stripes along the diagonals, so that the smear is along them. The 7 longest diagonals rise by
+/// 60 behind place `from`, and by 60 at their end: one swing, as wide as all that lies between.
 fn diagonals(from: usize) -> Vec<u8> {
     let at = |x: usize, y: usize| {
         let middle = if (x + 100 - y) / 4 % 2 == 0 { 100 } else { 150 };
@@ -148,5 +184,9 @@ fn a_length_beyond_the_picture() {
     assert!(length <= 201.0, "{length}");
     let answer = answer.unwrap();
     assert_eq!((answer.direction, answer.estimate), (RasterDirection4::DownRight, length));
-    assert!(answer.blur_length % 2 == 1 && answer.blur_length as f64 >= length && (answer.blur_length as f64) < length + 2.0);
+    assert!(
+        answer.blur_length % 2 == 1
+            && answer.blur_length as f64 >= length
+            && (answer.blur_length as f64) < length + 2.0
+    );
 }

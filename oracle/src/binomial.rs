@@ -62,7 +62,8 @@ impl Case for Binomial {
             .smaller()
             .into_iter()
             .map(|source| {
-                let destination = Picture { data: vec![0; source.width * source.height], stride: source.width, ..source };
+                let destination =
+                    Picture { data: vec![0; source.width * source.height], stride: source.width, ..source };
                 Self { scratch: source.width * source.height, source, destination }
             })
             .collect()

@@ -1,4 +1,5 @@
-//! One input of one call: it is checked on both sides and, where they differ, made smaller for as long as they still do.
+//! One input of one call: it is checked on both sides and, where they differ,
+//! made smaller for as long as they still do.
 
 use std::fmt::{self, Debug, Display};
 

@@ -1,4 +1,5 @@
-//! The program's stored cases: the two files of each, and what document 01 and the Rust original say that the program prints.
+//! The program's stored cases: the two files of each,
+//! and what document 01 and the Rust original say that the program prints.
 
 use crate::reader::printed;
 use std::path::Path;
@@ -19,8 +20,19 @@ struct Record {
     estimate: f64,
 }
 
-const DOCUMENT: Record =
-    Record { width: 5, height: 1, direction: 0, border: 0, value: 0, filter: 1, length: 3, iterations: 1, q: 65536, angle: 0.0, estimate: 0.0 };
+const DOCUMENT: Record = Record {
+    width: 5,
+    height: 1,
+    direction: 0,
+    border: 0,
+    value: 0,
+    filter: 1,
+    length: 3,
+    iterations: 1,
+    q: 65536,
+    angle: 0.0,
+    estimate: 0.0,
+};
 const ROW: [u8; 5] = [10, 10, 40, 10, 10];
 
 impl Record {
@@ -80,7 +92,8 @@ struct Stored {
 
 /// A missing file counts as empty.
 fn stored(name: &'static str, job: Option<Vec<u8>>, picture: Option<Vec<u8>>) -> Stored {
-    let expected = printed(job.as_deref().unwrap_or_default(), picture.as_deref().unwrap_or_default()).expect("no tie of direction");
+    let expected = printed(job.as_deref().unwrap_or_default(), picture.as_deref().unwrap_or_default())
+        .expect("no tie of direction");
     Stored { name, job, picture, expected }
 }
 
@@ -122,11 +135,19 @@ fn filters() -> Vec<Stored> {
     vec![
         case("restoration-horizontal-reflect", Record { border: 1, ..line }, pixels()),
         case("restoration-down-right-replicate", Record { angle: 0.75, ..line }, pixels()),
-        case("restoration-vertical-constant", Record { angle: 1.5, border: 2, value: 90, length: 33, ..line }, pixels()),
+        case(
+            "restoration-vertical-constant",
+            Record { angle: 1.5, border: 2, value: 90, length: 33, ..line },
+            pixels(),
+        ),
         case("restoration-down-left-22", Record { angle: -1.0, iterations: 22, q: 65536, border: 1, ..line }, pixels()),
         case("restoration-q-0", Record { angle: 3.0, q: 0, ..line }, pixels()),
         case("unsharp-vertical-reflect", Record { angle: 1.6, border: 1, q: 524288, ..sharp }, pixels()),
-        case("unsharp-down-left-constant", Record { angle: 2.3, border: 2, value: 255, q: 1, length: 31, ..sharp }, pixels()),
+        case(
+            "unsharp-down-left-constant",
+            Record { angle: 2.3, border: 2, value: 255, q: 1, length: 31, ..sharp },
+            pixels(),
+        ),
         case("binomial-picture", Record { width: 16, height: 12, filter: 3, ..Record::default() }, pixels()),
         case("binomial-largest", Record { width: 64, height: 64, filter: 3, ..Record::default() }, mixed(64, 64)),
         case("whole-job-rows", whole(48, 48), smeared(48, true)),
@@ -170,7 +191,9 @@ pub fn write(dir: &str) {
     for case in cases {
         let own = Path::new(dir).join(case.name);
         std::fs::create_dir_all(&own).expect("a case has a folder");
-        for (file, bytes) in [("job.rec", &case.job), ("picture.raw", &case.picture), ("expected", &Some(case.expected))] {
+        for (file, bytes) in
+            [("job.rec", &case.job), ("picture.raw", &case.picture), ("expected", &Some(case.expected))]
+        {
             if let Some(bytes) = bytes {
                 std::fs::write(own.join(file), bytes).expect("a case can be written");
             }

@@ -16,8 +16,10 @@ fn sums(picture: &Picture) -> (i64, i64, i64) {
     let (mut a, mut c, mut e) = (0, 0, 0);
     for y in 1..picture.height.saturating_sub(1) {
         for x in 1..picture.width.saturating_sub(1) {
-            let gx = at(x + 1, y - 1) + 2 * at(x + 1, y) + at(x + 1, y + 1) - at(x - 1, y - 1) - 2 * at(x - 1, y) - at(x - 1, y + 1);
-            let gy = at(x - 1, y + 1) + 2 * at(x, y + 1) + at(x + 1, y + 1) - at(x - 1, y - 1) - 2 * at(x, y - 1) - at(x + 1, y - 1);
+            let gx = at(x + 1, y - 1) + 2 * at(x + 1, y) + at(x + 1, y + 1)
+                - at(x - 1, y - 1) - 2 * at(x - 1, y) - at(x - 1, y + 1);
+            let gy = at(x - 1, y + 1) + 2 * at(x, y + 1) + at(x + 1, y + 1)
+                - at(x - 1, y - 1) - 2 * at(x, y - 1) - at(x + 1, y - 1);
             a += gx * gx;
             c += gx * gy;
             e += gy * gy;
@@ -37,7 +39,9 @@ impl Case for Direction {
         let p = &self.0;
         let (mut direction, mut a, mut c, mut e) = (77, 7, 8, 9);
         let code = unsafe {
-            smear_estimate_line_direction(p.data.as_ptr(), p.data.len(), p.width, p.height, p.stride, &mut direction, &mut a, &mut c, &mut e)
+            smear_estimate_line_direction(
+                p.data.as_ptr(), p.data.len(), p.width, p.height, p.stride, &mut direction, &mut a, &mut c, &mut e,
+            )
         };
         if code != p.refusal() {
             return Verdict::Differs(format!("refusal {code}, not {}", p.refusal()));

@@ -43,7 +43,8 @@ pub struct Smear {
     pub estimate: f64,
 }
 
-/// The smear of an accepted picture by the Rust's calls, with document 01's rounding of the length and its refusals 11 and 12.
+/// The smear of an accepted picture by the Rust's calls,
+/// with document 01's rounding of the length and its refusals 11 and 12.
 pub fn measure(source: &Picture, thresholds: &LineLengthConfig) -> Result<Smear, u8> {
     let direction = estimate_line_direction(source.view()).raster_direction;
     let theta_radians = match direction {
@@ -83,14 +84,23 @@ impl Job {
         if self.scratch < 3 * pixels || self.swings < pixels {
             return Err(10);
         }
-        let thresholds = LineLengthConfig { minimum_transitions: self.minimum_transitions, minimum_amplitude: self.minimum_amplitude };
+        let thresholds = LineLengthConfig {
+            minimum_transitions: self.minimum_transitions,
+            minimum_amplitude: self.minimum_amplitude,
+        };
         let Smear { direction, theta_radians, blur_length, estimate } = measure(s, &thresholds)?;
         let border = match self.border {
             0 => LineBorderMode::Replicate,
             1 => LineBorderMode::Reflect,
             _ => LineBorderMode::Constant(self.border_value),
         };
-        let config = VanCittertConfig { theta_radians, blur_length, iterations: self.iterations, relaxation: self.relaxation, border };
+        let config = VanCittertConfig {
+            theta_radians,
+            blur_length,
+            iterations: self.iterations,
+            relaxation: self.relaxation,
+            border,
+        };
         let mut bytes = d.data.clone();
         let view = Gray8ViewMut::new(&mut bytes, d.width, d.height, d.stride).expect("an accepted layout");
         van_cittert_line_into(s.view(), view, &config, &mut Default::default()).expect("an accepted call");
@@ -112,21 +122,26 @@ impl Case for Job {
             smear_restore(
                 s.data.as_ptr(), s.data.len(), s.width, s.height, s.stride,
                 bytes.as_mut_ptr(), bytes.len(), d.width, d.height, d.stride,
-                self.minimum_transitions, self.minimum_amplitude, self.iterations, self.relaxation, self.border, self.border_value,
+                self.minimum_transitions, self.minimum_amplitude,
+                self.iterations, self.relaxation, self.border, self.border_value,
                 scratch.as_mut_ptr(), scratch.len(), swings.as_mut_ptr(), swings.len(),
                 &mut direction, &mut blur_length, &mut estimate,
             )
         };
         match self.theirs() {
             Err(refused) if code == refused => {
-                let lent = code == 11 || code == 12 || scratch.iter().all(|&v| v == OLD) && swings.iter().all(|&s| s == OLD_SWING);
+                let lent = code == 11
+                    || code == 12
+                    || scratch.iter().all(|&v| v == OLD) && swings.iter().all(|&s| s == OLD_SWING);
                 if lent && bytes == d.data && (direction, blur_length, estimate) == (77, 77, -1.0) {
                     return Verdict::Refused;
                 }
                 Verdict::Differs("a refusal changed something".into())
             }
             Ok(theirs) if code == 0 && theirs == (direction, blur_length, estimate, bytes) => Verdict::Alike,
-            theirs => Verdict::Differs(format!("{code}, direction {direction}, length {blur_length}, {estimate:?}; not {theirs:?}")),
+            theirs => Verdict::Differs(format!(
+                "{code}, direction {direction}, length {blur_length}, {estimate:?}; not {theirs:?}"
+            )),
         }
     }
 

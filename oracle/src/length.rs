@@ -42,7 +42,10 @@ impl Case for Length {
                 Verdict::Differs("a refusal changed something".into())
             };
         }
-        let config = LineLengthConfig { minimum_transitions: self.minimum_transitions, minimum_amplitude: self.minimum_amplitude };
+        let config = LineLengthConfig {
+            minimum_transitions: self.minimum_transitions,
+            minimum_amplitude: self.minimum_amplitude,
+        };
         let theirs = estimate_line_length_with(s.view(), self.angle, &config).unwrap_or(0.0);
         if length.to_bits() == theirs.to_bits() {
             return Verdict::Alike;

@@ -1,5 +1,5 @@
-//! Compares the proved library with the Rust original: the same inputs, from a seeded generator, through the C interface.
-//! Ends with status 1 at the first difference, which it prints as small as it can make it.
+//! Compares the proved library with the Rust original: the same inputs, from a seeded generator, through the C
+//! interface. Ends with status 1 at the first difference, which it prints as small as it can make it.
 
 mod angle;
 mod binomial;

@@ -58,7 +58,8 @@ impl Picture {
         for (place, byte) in data.iter_mut().enumerate() {
             let (column, row) = (place % stride.max(1), place / stride.max(1));
             // bytes outside the picture are noise: they must never matter
-            *byte = if column < width && row < height { content.at(random, column, row) } else { random.below(256) as u8 };
+            *byte =
+                if column < width && row < height { content.at(random, column, row) } else { random.below(256) as u8 };
         }
         Self { data, width, height, stride }
     }
@@ -86,10 +87,25 @@ impl Picture {
         }
         let mut out = Vec::new();
         let (w, h) = (self.width, self.height);
-        for (rows, columns) in [(0..h / 2, 0..w), (h / 2..h, 0..w), (0..h, 0..w / 2), (0..h, w / 2..w), (0..h - 1, 0..w), (1..h, 0..w), (0..h, 0..w - 1), (0..h, 1..w)] {
+        for (rows, columns) in [
+            (0..h / 2, 0..w),
+            (h / 2..h, 0..w),
+            (0..h, 0..w / 2),
+            (0..h, w / 2..w),
+            (0..h - 1, 0..w),
+            (1..h, 0..w),
+            (0..h, 0..w - 1),
+            (0..h, 1..w),
+        ] {
             if !rows.is_empty() && !columns.is_empty() && (rows.len() < h || columns.len() < w) {
-                let data = rows.flat_map(|y| columns.clone().map(move |x| self.data[y * self.stride + x])).collect::<Vec<_>>();
-                out.push(Self { height: data.len() / columns.len(), width: columns.len(), stride: columns.len(), data });
+                let data =
+                    rows.flat_map(|y| columns.clone().map(move |x| self.data[y * self.stride + x])).collect::<Vec<_>>();
+                out.push(Self {
+                    height: data.len() / columns.len(),
+                    width: columns.len(),
+                    stride: columns.len(),
+                    data,
+                });
             }
         }
         if self.stride != w || self.data.len() != w * h {

@@ -1,4 +1,5 @@
-//! The program's function on hostile input: records that are cut, changed or made up, any picture, any room for the answer.
+//! The program's function on hostile input: records that are cut, changed or made up, any picture,
+//! any room for the answer.
 
 use crate::case::{Case, Tally, Verdict};
 use crate::ffi::smear_run;
@@ -25,7 +26,11 @@ impl Case for Run {
         let (job, picture) = (self.job.clone(), self.picture.clone());
         let mut out = vec![OLD; self.room + BEHIND];
         let mut written = usize::MAX;
-        let code = unsafe { smear_run(job.as_ptr(), job.len(), picture.as_ptr(), picture.len(), out.as_mut_ptr(), self.room, &mut written) };
+        let code = unsafe {
+            smear_run(
+                job.as_ptr(), job.len(), picture.as_ptr(), picture.len(), out.as_mut_ptr(), self.room, &mut written,
+            )
+        };
         if job != self.job || picture != self.picture {
             return Verdict::Differs("an input was changed".into());
         }
@@ -81,7 +86,8 @@ impl Run {
 /// A picture without bytes between its rows, with surplus behind the last.
 fn tight(random: &mut Random, width: usize, height: usize, surplus: usize) -> Vec<u8> {
     let picture = Picture::random(random, width, height);
-    let mut out: Vec<u8> = (0..height).flat_map(|y| picture.data[y * picture.stride..][..width].iter().copied()).collect();
+    let mut out: Vec<u8> =
+        (0..height).flat_map(|y| picture.data[y * picture.stride..][..width].iter().copied()).collect();
     out.extend((0..surplus).map(|_| random.below(256) as u8));
     out
 }
@@ -129,7 +135,8 @@ fn job(random: &mut Random, width: usize, height: usize) -> Vec<u8> {
 fn good(random: &mut Random) -> Run {
     let (width, height) = size(random);
     // a whole job wants some transitions
-    let (width, height) = if random.below(4) == 0 { (width, height) } else { ((width + 8).min(64), (height + 3).min(64)) };
+    let (width, height) =
+        if random.below(4) == 0 { (width, height) } else { ((width + 8).min(64), (height + 3).min(64)) };
     let surplus = random.below(3) as usize;
     Run { job: job(random, width, height), picture: tight(random, width, height, surplus), room: ROOM }
 }

@@ -1,4 +1,5 @@
-//! What the program prints, from document 01's words ("The 32-byte record") and apart from the proved code; the pixels are the Rust's.
+//! What the program prints, from document 01's words ("The 32-byte record") and apart from the proved code;
+//! the pixels are the Rust's.
 
 use crate::angle::number;
 use crate::direction::is_tie;
@@ -24,7 +25,8 @@ fn short(bytes: &[u8; 32], at: usize) -> usize {
     usize::from(bytes[at]) + 256 * usize::from(bytes[at + 1])
 }
 
-/// A line filter's task: border, length, iterations, q and angle within its limits; direction 0 and estimate 0, as in every job.
+/// A line filter's task: border, length, iterations, q and angle within its limits;
+/// direction 0 and estimate 0, as in every job.
 fn line_task(bytes: &[u8; 32], longest: usize) -> Option<Task> {
     if bytes[4] != 0 || bytes[24..].iter().any(|&byte| byte != 0) {
         return None;
@@ -70,7 +72,8 @@ fn read(bytes: &[u8]) -> Option<(usize, usize, Task)> {
     Some((width, height, task?))
 }
 
-/// The Rust's pixels of a tight picture, with direction, length and the estimate's bits as the result names them; or a refusal.
+/// The Rust's pixels of a tight picture, with direction, length and the estimate's bits as the result names them;
+/// or a refusal.
 fn answer(source: &Picture, task: Task) -> Result<(Vec<u8>, u8, usize, u64), u8> {
     let mut pixels = vec![0; source.data.len()];
     let view = Gray8ViewMut::new(&mut pixels, source.width, source.height, source.width).expect("an accepted layout");
@@ -78,7 +81,8 @@ fn answer(source: &Picture, task: Task) -> Result<(Vec<u8>, u8, usize, u64), u8>
     let (direction, length, estimate) = match task {
         Task::Whole(settings) => {
             let smear = measure(source, &Default::default())?;
-            let config = VanCittertConfig { theta_radians: smear.theta_radians, blur_length: smear.blur_length, ..settings };
+            let config =
+                VanCittertConfig { theta_radians: smear.theta_radians, blur_length: smear.blur_length, ..settings };
             van_cittert_line_into(source.view(), view, &config, &mut Default::default()).expect("an accepted call");
             (number(smear.direction), smear.blur_length, smear.estimate.to_bits())
         }
@@ -87,7 +91,8 @@ fn answer(source: &Picture, task: Task) -> Result<(Vec<u8>, u8, usize, u64), u8>
             (snapped(config.theta_radians), config.blur_length, 0)
         }
         Task::Unsharp(config) => {
-            directional_unsharp_line_into(source.view(), view, &config, &mut Default::default()).expect("an accepted call");
+            directional_unsharp_line_into(source.view(), view, &config, &mut Default::default())
+                .expect("an accepted call");
             (snapped(config.theta_radians), config.blur_length, 0)
         }
         Task::Binomial => {
@@ -98,7 +103,8 @@ fn answer(source: &Picture, task: Task) -> Result<(Vec<u8>, u8, usize, u64), u8>
     Ok((pixels, direction, length, estimate))
 }
 
-/// The bytes that the program prints for the two files' bytes; nothing where a whole job's direction is a tie, which the Rust decides otherwise.
+/// The bytes that the program prints for the two files' bytes; nothing where a whole job's direction is a tie,
+/// which the Rust decides otherwise.
 pub fn printed(job: &[u8], picture: &[u8]) -> Option<Vec<u8>> {
     let Some((width, height, task)) = read(job) else {
         return Some(b"refused 13\n".to_vec());

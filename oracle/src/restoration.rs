@@ -1,4 +1,5 @@
-//! The line filters: restoration and line unsharp against the Rust, and the estimate call against a plain restatement of the Rust's steps.
+//! The line filters: restoration and line unsharp against the Rust, and the estimate call
+//! against a plain restatement of the Rust's steps.
 
 use crate::angle::number;
 use crate::case::{Case, Tally, Verdict};
@@ -57,7 +58,11 @@ impl Filter {
         if self.call != Call::Estimate && (s.width, s.height) != (d.width, d.height) {
             return 6;
         }
-        if self.length < 3 || self.length % 2 == 0 || self.length > 2 * s.width.max(s.height) + 1 || !self.angle.is_finite() {
+        if self.length < 3
+            || self.length % 2 == 0
+            || self.length > 2 * s.width.max(s.height) + 1
+            || !self.angle.is_finite()
+        {
             return 7;
         }
         let limit = if self.call == Call::Unsharp { 8.0 } else { 1.0 };
@@ -110,7 +115,13 @@ impl Filter {
             let config = DirectionalUnsharpConfig { theta_radians, blur_length, gain: self.factor, border };
             directional_unsharp_line_into(s.view(), view, &config, &mut Default::default())
         } else {
-            let config = VanCittertConfig { theta_radians, blur_length, iterations: self.iterations, relaxation: self.factor, border };
+            let config = VanCittertConfig {
+                theta_radians,
+                blur_length,
+                iterations: self.iterations,
+                relaxation: self.factor,
+                border,
+            };
             van_cittert_line_into(s.view(), view, &config, &mut Default::default())
         };
         done.expect("an accepted call");
@@ -126,7 +137,8 @@ impl Filter {
         let q = (self.factor * 65_536.0).round() as i64;
         let half = (self.length / 2) as i64;
         let inside = |x: i64, y: i64| (0..w).contains(&x) && (0..h).contains(&y);
-        let observed: Vec<i64> = (0..h).flat_map(|y| (0..w).map(move |x| i64::from(s.data[y as usize * s.stride + x as usize]))).collect();
+        let observed: Vec<i64> =
+            (0..h).flat_map(|y| (0..w).map(move |x| i64::from(s.data[y as usize * s.stride + x as usize]))).collect();
         let mut estimate = observed.clone();
         for _ in 0..self.iterations {
             let last = estimate.clone();
@@ -169,7 +181,9 @@ impl Case for Filter {
             return Verdict::Differs(format!("refusal {code}, not {}", self.refusal()));
         }
         if code != 0 {
-            let kept = bytes == self.destination.data && estimates.iter().chain(&scratch).all(|&v| v == OLD) && direction == 77;
+            let kept = bytes == self.destination.data
+                && estimates.iter().chain(&scratch).all(|&v| v == OLD)
+                && direction == 77;
             return if kept { Verdict::Refused } else { Verdict::Differs("a refusal changed something".into()) };
         }
         if direction != number(RasterDirection4::from_angle(self.angle)) {
@@ -222,7 +236,8 @@ fn factor(random: &mut Random, limit: f64) -> f64 {
         8 => [0.0, -0.0, limit, 2f64.powi(-17), f64::from_bits(1)][random.below(5) as usize],
         9 => 1.5f64.min(limit),
         10 => 0.5,
-        _ => [f64::NAN, f64::INFINITY, -f64::MIN_POSITIVE, f64::from_bits(limit.to_bits() + 1), -1.0][random.below(5) as usize],
+        _ => [f64::NAN, f64::INFINITY, -f64::MIN_POSITIVE, f64::from_bits(limit.to_bits() + 1), -1.0]
+            [random.below(5) as usize],
     }
 }
 

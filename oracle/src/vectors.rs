@@ -1,4 +1,5 @@
-//! The stored list of the Rust's answers, which crates/vectors replays. The form of a case is told in crates/vectors/src/case.rt.
+//! The stored list of the Rust's answers, which crates/vectors replays.
+//! The form of a case is told in crates/vectors/src/case.rt.
 
 mod chosen;
 
@@ -67,10 +68,22 @@ fn refusal(error: ImgProcError) -> u8 {
 impl Case {
     fn new(call: Call, source: Picture) -> Self {
         let destination = match call {
-            Call::FromAngle | Call::Direction | Call::Length => Picture { data: Vec::new(), width: 0, height: 0, stride: 0 },
+            Call::FromAngle | Call::Direction | Call::Length => {
+                Picture { data: Vec::new(), width: 0, height: 0, stride: 0 }
+            }
             _ => Picture { data: vec![OLD; source.width * source.height], stride: source.width, ..source },
         };
-        Self { call, source, destination, angle: 0.0, length: 3, count: 1, factor: 1.0, border: LineBorderMode::Replicate, amplitude: 24 }
+        Self {
+            call,
+            source,
+            destination,
+            angle: 0.0,
+            length: 3,
+            count: 1,
+            factor: 1.0,
+            border: LineBorderMode::Replicate,
+            amplitude: 24,
+        }
     }
 
     /// The Rust's answer: the number, what was found, and the length; pixels go to `bytes`.
@@ -92,7 +105,13 @@ impl Case {
         let (theta_radians, blur_length, border) = (self.angle, self.length, self.border);
         let metadata = match self.call {
             Call::Restoration => {
-                let config = VanCittertConfig { theta_radians, blur_length, iterations: self.count, relaxation: self.factor, border };
+                let config = VanCittertConfig {
+                    theta_radians,
+                    blur_length,
+                    iterations: self.count,
+                    relaxation: self.factor,
+                    border,
+                };
                 deblur::van_cittert_line_into(view, target, &config, &mut Default::default()).map_err(refusal)?
             }
             Call::Unsharp => {
@@ -129,7 +148,8 @@ impl Case {
         };
         out.extend([self.call as u8, answer.number, answer.found, border, value, self.amplitude]);
         let picture = |p: &Picture| [p.data.len(), p.width, p.height, p.stride];
-        let numbers = [self.count, self.length].into_iter().chain(picture(&self.source)).chain(picture(&self.destination));
+        let numbers =
+            [self.count, self.length].into_iter().chain(picture(&self.source)).chain(picture(&self.destination));
         out.extend(numbers.flat_map(|n| u16::try_from(n).expect("a number of two bytes").to_le_bytes()));
         out.extend([self.angle, self.factor, answer.estimate].iter().flat_map(|x| x.to_bits().to_le_bytes()));
         out.extend(&self.source.data);
@@ -148,7 +168,10 @@ pub fn write(path: &str) {
     assert!(out.len() < 65_536, "a list of {} bytes, more than the program reads", out.len());
     std::fs::write(path, &out).expect("the list can be written");
     for ((_, call, number), count) in &counts {
-        println!("{call:<12} {:<12} {count:>4}", if *number == 0 { "accepted".into() } else { format!("refused {number}") });
+        println!(
+            "{call:<12} {:<12} {count:>4}",
+            if *number == 0 { "accepted".into() } else { format!("refused {number}") }
+        );
     }
     println!("{} cases, {} bytes", counts.values().sum::<i32>(), out.len());
 }

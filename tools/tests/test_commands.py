@@ -26,7 +26,8 @@ class Commands(unittest.TestCase):
 
     def run_tool(self, *words, status=0):
         """What the tool says in the folder."""
-        done = subprocess.run([os.path.join(TOOLS, words[0]), *words[1:]], cwd=self.folder, capture_output=True, text=True, check=False)
+        command = [os.path.join(TOOLS, words[0]), *words[1:]]
+        done = subprocess.run(command, cwd=self.folder, capture_output=True, text=True, check=False)
         self.assertEqual(done.returncode, status, done.stderr)
         return done.stderr if status else done.stdout
 
@@ -37,7 +38,8 @@ class Commands(unittest.TestCase):
         self.file("answer", b"pixels" + self.file("job.rec"))
         self.assertIn("length     3", self.run_tool("record", "show", "--last", "answer"))
         self.assertIn("refused 13", self.run_tool("record", "show", "answer", status=1))
-        self.assertIn("refused 9", self.run_tool("record", "make", "--width", "5", "--height", "1", "--iterations", "23", status=1))
+        many = ["--width", "5", "--height", "1", "--iterations", "23"]
+        self.assertIn("refused 9", self.run_tool("record", "make", *many, status=1))
         self.assertIn("no-such-file", self.run_tool("record", "show", "no-such-file", status=1))
 
     def test_picture(self):
@@ -60,7 +62,8 @@ class Commands(unittest.TestCase):
         self.file("ramp.pgm", RAMP)
         self.assertIn("no smear was measured", self.run_tool("restore", "ramp.pgm", "out.pgm", status=1))
         self.file("large.pgm", b"P5 64 65 255\n" + bytes(64 * 65))
-        self.assertIn("64 by 65 are 4160 pixels; the program takes at most 4096", self.run_tool("restore", "large.pgm", "out.pgm", status=1))
+        reason = "64 by 65 are 4160 pixels; the program takes at most 4096"
+        self.assertIn(reason, self.run_tool("restore", "large.pgm", "out.pgm", status=1))
         self.assertFalse(os.path.exists(os.path.join(self.folder, "out.pgm")))
 
     def test_sample_label(self):

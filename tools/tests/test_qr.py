@@ -43,7 +43,10 @@ class Qr(unittest.TestCase):
 
     def test_formats(self):
         # ISO/IEC 18004, annex C: level M with masks 0 to 7
-        formats = ["101010000010010", "101000100100101", "101111001111100", "101101101001011", "100010111111001", "100000011001110", "100111110010111", "100101010100000"]
+        formats = [
+            "101010000010010", "101000100100101", "101111001111100", "101101101001011",
+            "100010111111001", "100000011001110", "100111110010111", "100101010100000",
+        ]
         self.assertEqual([f"{qr.format_bits(mask):015b}" for mask in range(8)], formats)
 
     def test_symbol(self):

@@ -34,8 +34,8 @@ class Records(unittest.TestCase):
     def test_jobs_from_options(self):
         self.assertEqual(job(5, 1, "--length", "3", "--iterations", "1"), ROW)
         self.assertEqual(job(64, 64), WHOLE_JOB)
-        unsharp = ["--filter", "unsharp", "--length", "3", "--angle", "1.5", "--border", "constant", "--border-value", "7"]
-        self.assertEqual(job(5, 1, *unsharp), UNSHARP)
+        unsharp = "--filter unsharp --length 3 --angle 1.5 --border constant --border-value 7"
+        self.assertEqual(job(5, 1, *unsharp.split()), UNSHARP)
         self.assertEqual(job(5, 1, "--filter", "binomial"), BINOMIAL)
 
     def test_bytes_and_fields_determine_each_other(self):
@@ -64,7 +64,8 @@ class Records(unittest.TestCase):
             (7, (5, 1, "--length", "13")), (7, (5, 1, "--length", "4")), (7, (5, 1, "--length", "1")),
             (7, (5, 1, "--length", "3", "--angle", "nan")), (7, (5, 1, "--length", "3", "--angle", "inf")),
             (8, (5, 1, "--iterations", "0")), (9, (5, 1, "--iterations", "23")),
-            (8, (5, 1, "--relaxation", "1.0000001")), (8, (5, 1, "--relaxation", "nan")), (8, (5, 1, "--relaxation", "-0.1")),
+            (8, (5, 1, "--relaxation", "1.0000001")),
+            (8, (5, 1, "--relaxation", "nan")), (8, (5, 1, "--relaxation", "-0.1")),
             (8, (5, 1, "--filter", "unsharp", "--length", "3", "--gain", "8.1")),
             # the first match wins
             (1, (0, 2000)), (1, (0, 1, "--length", "4")), (7, (5, 1, "--length", "4", "--iterations", "0")),
@@ -85,7 +86,9 @@ class Records(unittest.TestCase):
             self.refuses(13, records.read, data)
 
     def test_broken_sizes_and_single_bytes(self):
-        for place, there in [(0, "0000"), (0, "0104"), (2, "0000"), (2, "0104"), (4, "04"), (5, "03"), (6, "01"), (7, "00"), (7, "04")]:
+        for place, there in [
+            (0, "0000"), (0, "0104"), (2, "0000"), (2, "0104"), (4, "04"), (5, "03"), (6, "01"), (7, "00"), (7, "04"),
+        ]:
             self.breaks(ROW, place, there)
 
     def test_broken_numbers(self):
@@ -95,8 +98,11 @@ class Records(unittest.TestCase):
             self.breaks(UNSHARP, place, there)
 
     def test_broken_doubles(self):
-        infinite, no_number, minus_zero, minus_one = "000000000000F07F", "000000000000F87F", "0000000000000080", "000000000000F0BF"
-        for place, there in [(16, infinite), (16, no_number), (24, infinite), (24, no_number), (24, minus_zero), (24, minus_one)]:
+        infinite, no_number = "000000000000F07F", "000000000000F87F"
+        minus_zero, minus_one = "0000000000000080", "000000000000F0BF"
+        for place, there in [
+            (16, infinite), (16, no_number), (24, infinite), (24, no_number), (24, minus_zero), (24, minus_one),
+        ]:
             self.breaks(ROW, place, there)
 
     def test_broken_whole_jobs(self):
@@ -109,7 +115,8 @@ class Records(unittest.TestCase):
         self.breaks(BINOMIAL, 24, "0000000000000080")
 
     def test_words(self):
-        self.assertIn("direction  Vertical\n  length     7\n  estimate   6.5 pixels", records.words(records.read(RESULT)))
+        result = "direction  Vertical\n  length     7\n  estimate   6.5 pixels"
+        self.assertIn(result, records.words(records.read(RESULT)))
         self.assertIn("whole job", records.words(records.read(WHOLE_JOB)))
         self.assertIn("line unsharp, gain 1.5 (q 98304)", records.words(records.read(UNSHARP)))
         self.assertIn("direction  Vertical, from the angle 1.5", records.words(records.read(UNSHARP)))

@@ -1,5 +1,5 @@
-// Call sites as a caller of qr-lab has them. This file is included twice, and only the `use` lines before it differ. Answers are texts, so
-// that those of two crates can be compared.
+// Call sites as a caller of qr-lab has them. This file is included twice, and only the `use` lines before it differ.
+// Answers are texts, so that those of two crates can be compared.
 
 use crate::settings::Settings;
 use crate::picture::Picture;
@@ -12,7 +12,15 @@ pub fn layout(p: &Picture) -> String {
     let view = Gray8View::new(&p.data, p.width, p.height, p.stride);
     let parts = view.map(|v| {
         let (x, y) = (v.width() - 1, v.height() - 1);
-        (v.size().width, v.size().height, v.stride(), v.get(x, y), v.try_get(x, y), v.try_get(x + 1, y), v.row(y).to_vec())
+        (
+            v.size().width,
+            v.size().height,
+            v.stride(),
+            v.get(x, y),
+            v.try_get(x, y),
+            v.try_get(x + 1, y),
+            v.row(y).to_vec(),
+        )
     });
     let mut bytes = p.data.clone();
     let view = Gray8ViewMut::new(&mut bytes, p.width, p.height, p.stride);
@@ -31,7 +39,8 @@ pub fn direction(p: &Picture) -> String {
 }
 
 pub fn lengths(p: &Picture, s: &Settings) -> String {
-    let thresholds = blur::LineLengthConfig { minimum_transitions: s.minimum_transitions, minimum_amplitude: s.minimum_amplitude };
+    let thresholds =
+        blur::LineLengthConfig { minimum_transitions: s.minimum_transitions, minimum_amplitude: s.minimum_amplitude };
     let with = blur::estimate_line_length_with(view(p), s.angle, &thresholds);
     let usual = blur::estimate_line_length(view(p), s.angle);
     format!("{:?} {:?}", with.map(f64::to_bits), usual.map(f64::to_bits))
@@ -64,8 +73,12 @@ pub fn restored(p: &Picture, dst: &Picture, s: &Settings, workspace: &mut deblur
 }
 
 pub fn unsharpened(p: &Picture, dst: &Picture, s: &Settings, workspace: &mut deblur::DeblurWorkspace) -> String {
-    let config =
-        deblur::DirectionalUnsharpConfig { theta_radians: s.angle, blur_length: s.blur_length, gain: 8.0 * s.factor, border: border(s) };
+    let config = deblur::DirectionalUnsharpConfig {
+        theta_radians: s.angle,
+        blur_length: s.blur_length,
+        gain: 8.0 * s.factor,
+        border: border(s),
+    };
     written(dst, |out| Ok(format!("{:?}", deblur::directional_unsharp_line_into(view(p), out, &config, workspace)?)))
 }
 

@@ -1,4 +1,5 @@
-//! The same call sites, compiled against the Rust original and against this crate, give the same answers on random pictures.
+//! The same call sites, compiled against the Rust original and against this crate,
+//! give the same answers on random pictures.
 //! Usage: compare [SEED]. Ends with status 1 at the first difference.
 
 #[allow(dead_code)]
@@ -67,15 +68,23 @@ fn main() {
         let (theirs, ours) = (theirs::lengths(&src, &settings), ours::lengths(&src, &settings));
         found += theirs.contains("Some") as usize;
         same("estimate_line_length", number, theirs, ours);
-        let (theirs, ours) =
-            (theirs::restored(&src, &dst, &settings, &mut their_scratch), ours::restored(&src, &dst, &settings, &mut our_scratch));
+        let (theirs, ours) = (
+            theirs::restored(&src, &dst, &settings, &mut their_scratch),
+            ours::restored(&src, &dst, &settings, &mut our_scratch),
+        );
         accepted += theirs.starts_with("Ok") as usize;
         same("van_cittert_line_into", number, theirs, ours);
-        let (theirs, ours) =
-            (theirs::unsharpened(&src, &dst, &settings, &mut their_scratch), ours::unsharpened(&src, &dst, &settings, &mut our_scratch));
+        let (theirs, ours) = (
+            theirs::unsharpened(&src, &dst, &settings, &mut their_scratch),
+            ours::unsharpened(&src, &dst, &settings, &mut our_scratch),
+        );
         same("directional_unsharp_line_into", number, theirs, ours);
-        let (theirs, ours) = (theirs::sharpened(&src, &dst, &mut their_room), ours::sharpened(&src, &dst, &mut our_room));
+        let (theirs, ours) =
+            (theirs::sharpened(&src, &dst, &mut their_room), ours::sharpened(&src, &dst, &mut our_room));
         same("fixed_binomial_unsharp_into", number, theirs, ours);
     }
-    println!("compare: the same call sites give the Rust's answers on {PICTURES} pictures ({found} lengths, {accepted} restorations)");
+    println!(
+        "compare: the same call sites give the Rust's answers on {PICTURES} pictures \
+         ({found} lengths, {accepted} restorations)"
+    );
 }

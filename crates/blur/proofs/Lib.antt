@@ -1,9 +1,10 @@
 -- The laws of `blur`, by subject.
 pub mod Above
-pub mod Courses
+pub mod ScanPlans
 pub mod Estimate
 pub mod Keys
 pub mod LengthExamples
+pub mod Parameters
 pub mod Passes
 pub mod Place
 pub mod Radix

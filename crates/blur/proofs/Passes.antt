@@ -1,4 +1,5 @@
--- A pass over any list of swings counts, for each digit, the keys that stay and have that digit below the prefix; and it counts how many records it counted.
+-- A pass over any list of swings counts, for each digit, the keys that stay and have that digit below the prefix; and
+-- it counts how many records it counted.
 use mathlib.Core.Path.{_≡_, refl, sym, ap, _∙_, subst}
 use mathlib.Core.Bool.{Bool, true, false, cond, _&&_}
 use mathlib.Core.List.{List, [], _∷_, map}
@@ -15,7 +16,7 @@ use borrow.Author.Tests.{eq-eqb, ne-eqb, eqb-true, eqb-false}
 use Rattle.swings.specs.declared.Swing.{Swing}
 use Rattle.blur.specs.declared.select.Pass.{Pass}
 use Rattle.blur.specs.Median.{stays, kept}
-use Rattle.swings.specs.Each.{Each}
+use Rattle.walks.specs.Each.{Each}
 use Rattle.blur.specs.Select.{high, counted, passed, tallied, passAll, tallyAll, Positive, Widths}
 use Rattle.blur.proofs.Place.{bit, count}
 use Rattle.blur.proofs.Radix.{having}
@@ -23,7 +24,8 @@ use Rattle.blur.proofs.Radix.{having}
 abbrev pub keys : ℤ → List Swing → List ℕ
 keys top l = map (toBits binary64) (kept top l)
 
-pub kept-each : (P : Float → Type 0) (top : ℤ) (l : List Swing) → Each (λ (s : Swing). P (s .width)) l → Each P (kept top l)
+pub kept-each : (P : Float → Type 0) (top : ℤ) (l : List Swing) → Each (λ (s : Swing). P (s .width)) l
+    → Each P (kept top l)
 kept-each P top [] e = tt
 kept-each P top (s ∷ l) e = go (stays top s) (kept-each P top l (e .1))
   where
@@ -45,13 +47,27 @@ pub length-kept : (top : ℤ) (l : List Swing) → length (kept top l) ≤ lengt
 length-kept top [] = omega arith
 length-kept top (s ∷ l) = go (stays top s) (length-kept top l)
   where
-    go : (b : Bool) → length (kept top l) ≤ length l → length (cond b (s .width ∷ kept top l) (kept top l)) ≤ suc (length l)
+    go : (b : Bool) → length (kept top l) ≤ length l
+        → length (cond b (s .width ∷ kept top l) (kept top l)) ≤ suc (length l)
     go true h = omega arith
     go false h = omega arith
 
 -- ---- the state: only its count changes
 abbrev pub withCount : Pass → ℕ → Pass
-withCount a n = record { left = a .left; total = a .total; reach = a .reach; low = a .low; high = a .high; strongest = a .strongest; prefix = a .prefix; shift = a .shift; place = a .place; kept = a .kept; count = n }
+withCount a n = record {
+  left = a .left;
+  total = a .total;
+  reach = a .reach;
+  low = a .low;
+  high = a .high;
+  strongest =
+      a .strongest;
+  prefix = a .prefix;
+  shift = a .shift;
+  place = a .place;
+  kept = a .kept;
+  count = n;
+}
 
 passed-is : (s : Swing) (a : Pass) (n : ℕ) → passed s (withCount a n) ≡ withCount a (n + bit (counted s a))
 passed-is s a n = go (counted s a)
@@ -60,10 +76,12 @@ passed-is s a n = go (counted s a)
     go true = refl
     go false = ap (withCount a) (sym (add-zero n))
 
-passAll-from : (l : List Swing) (a : Pass) (n : ℕ) → passAll l (withCount a n) ≡ withCount a (n + count (λ s. counted s a) l)
+passAll-from : (l : List Swing) (a : Pass) (n : ℕ)
+    → passAll l (withCount a n) ≡ withCount a (n + count (λ s. counted s a) l)
 passAll-from [] a n = ap (withCount a) (sym (add-zero n))
 passAll-from (s ∷ l) a n =
-    ap (passAll l) (passed-is s a n) ∙ passAll-from l a (n + bit (counted s a)) ∙ ap (withCount a) (add-assoc n (bit (counted s a)) (count (λ t. counted t a) l))
+    ap (passAll l) (passed-is s a n) ∙ passAll-from l a (n + bit (counted s a))
+    ∙ ap (withCount a) (add-assoc n (bit (counted s a)) (count (λ t. counted t a) l))
 
 pub passAll-is : (l : List Swing) (a : Pass) → passAll l a ≡ withCount a (a .count + count (λ s. counted s a) l)
 passAll-is l a = passAll-from l a (a .count)
@@ -83,7 +101,8 @@ length-tallyAll (s ∷ l) a cs = length-tallyAll l (passed s a) (tallied s a cs)
 abbrev here : Swing → Pass → ℕ → Bool
 here s a e = counted s a && eqb (high s a % 8192) e
 
-getD-tallied : (s : Swing) (a : Pass) (cs : List ℕ) (e : ℕ) → length cs ≡ 8192 → getD (tallied s a cs) e 0 ≡ getD cs e 0 + bit (here s a e)
+getD-tallied : (s : Swing) (a : Pass) (cs : List ℕ) (e : ℕ) → length cs ≡ 8192
+    → getD (tallied s a cs) e 0 ≡ getD cs e 0 + bit (here s a e)
 getD-tallied s a cs e n = go (counted s a)
   where
     d : ℕ
@@ -99,7 +118,8 @@ getD-tallied s a cs e n = go (counted s a)
     go true = at (eqb d e) refl
     go false = sym (add-zero (getD cs e 0))
 
-tallyAll-from : (l : List Swing) (a : Pass) (n : ℕ) (cs : List ℕ) (e : ℕ) → length cs ≡ 8192 → getD (tallyAll l (withCount a n) cs) e 0 ≡ getD cs e 0 + count (λ s. here s a e) l
+tallyAll-from : (l : List Swing) (a : Pass) (n : ℕ) (cs : List ℕ) (e : ℕ) → length cs ≡ 8192
+    → getD (tallyAll l (withCount a n) cs) e 0 ≡ getD cs e 0 + count (λ s. here s a e) l
 tallyAll-from [] a n cs e h = sym (add-zero (getD cs e 0))
 tallyAll-from (s ∷ l) a n cs e h =
     ap (λ (b : Pass). getD (tallyAll l b (tallied s a cs)) e 0) (passed-is s a n)
@@ -112,16 +132,19 @@ pub count-same : {A : Type 0} (p q : A → Bool) → ((x : A) → p x ≡ q x) �
 count-same p q e [] = refl
 count-same p q e (x ∷ l) = rw (e x) (ap (bit (q x) +_) (count-same p q e l))
 
-pub count-keys : (top : ℤ) (p : ℕ → Bool) (l : List Swing) → count (λ s. stays top s && p (toBits binary64 (s .width))) l ≡ count p (keys top l)
+pub count-keys : (top : ℤ) (p : ℕ → Bool) (l : List Swing)
+    → count (λ s. stays top s && p (toBits binary64 (s .width))) l ≡ count p (keys top l)
 count-keys top p [] = refl
 count-keys top p (s ∷ l) = go (stays top s) (count-keys top p l)
   where
     go : (b : Bool) → count (λ t. stays top t && p (toBits binary64 (t .width))) l ≡ count p (keys top l)
-        → bit (b && p (toBits binary64 (s .width))) + count (λ t. stays top t && p (toBits binary64 (t .width))) l ≡ count p (map (toBits binary64) (cond b (s .width ∷ kept top l) (kept top l)))
+        → bit (b && p (toBits binary64 (s .width))) + count (λ t. stays top t && p (toBits binary64 (t .width)))
+        l ≡ count p (map (toBits binary64) (cond b (s .width ∷ kept top l) (kept top l)))
     go true e = ap (bit (p (toBits binary64 (s .width))) +_) e
     go false e = omega (arith, e)
 
-two-tests : (b : Bool) (h p e : ℕ) → e < 8192 → (b && eqb (h / 8192) p && eqb (h % 8192) e) ≡ (b && eqb h (p * 8192 + e))
+two-tests : (b : Bool) (h p e : ℕ) → e < 8192
+    → (b && eqb (h / 8192) p && eqb (h % 8192) e) ≡ (b && eqb h (p * 8192 + e))
 two-tests false h p e k = refl
 two-tests true h p e k = go (eqb h (p * 8192 + e)) refl
   where
@@ -141,8 +164,11 @@ pub tallyAll-is : (l : List Swing) (a : Pass) (cs : List ℕ) (e : ℕ) → leng
 tallyAll-is l a cs e n h =
     tallyAll-from l a (a .count) cs e n
     ∙ ap (getD cs e 0 +_)
-    (count-same (λ s. here s a e) (λ s. stays (a .strongest) s && eqb (high s a) (a .prefix * 8192 + e)) (λ s. two-tests (stays (a .strongest) s) (high s a) (a .prefix) e h) l
+    (count-same (λ s. here s a e) (λ s. stays (a .strongest) s && eqb (high s a) (a .prefix * 8192 + e))
+    (λ s. two-tests (stays (a .strongest) s) (high s a) (a .prefix) e h) l
     ∙ count-keys (a .strongest) (λ y. eqb (y / 2 ^ a .shift) (a .prefix * 8192 + e)) l)
 
-pub passAll-count : (l : List Swing) (a : Pass) → passAll l a .count ≡ a .count + count (λ y. eqb (y / 2 ^ a .shift / 8192) (a .prefix)) (keys (a .strongest) l)
-passAll-count l a = ap (λ (b : Pass). b .count) (passAll-is l a) ∙ ap (a .count +_) (count-keys (a .strongest) (λ y. eqb (y / 2 ^ a .shift / 8192) (a .prefix)) l)
+pub passAll-count : (l : List Swing) (a : Pass)
+    → passAll l a .count ≡ a .count + count (λ y. eqb (y / 2 ^ a .shift / 8192) (a .prefix)) (keys (a .strongest) l)
+passAll-count l a = ap (λ (b : Pass). b .count) (passAll-is l a)
+    ∙ ap (a .count +_) (count-keys (a .strongest) (λ y. eqb (y / 2 ^ a .shift / 8192) (a .prefix)) l)

@@ -1,5 +1,5 @@
--- The element at a place of a list of keys in ascending order: the one key with at most k keys below it and more than k keys up to it.
--- Everything goes by one count, `under t l`: how many keys of l are below t.
+-- The element at a place of a list of keys in ascending order: the one key with at most k keys below it and more than k
+-- keys up to it. Everything goes by one count, `under t l`: how many keys of l are below t.
 use mathlib.Core.Path.{_≡_, refl, ap, _∙_}
 use mathlib.Core.Bool.{Bool, true, false, not, cond}
 use mathlib.Core.List.{List, [], _∷_}
@@ -10,8 +10,9 @@ use lib.Dec.{T, ltb, leb, ltb→lt, nltb→le, leb→le, nleb→lt}
 use lib.ListN.{length, getD}
 use borrow.Author.Tests.{lt-ltb, le-ltb}
 use Rattle.blur.specs.Median.{insert, sort}
-use Rattle.swings.specs.Each.{Each}
-use Rattle.swings.proofs.Each.{each-map, each-at}
+use Rattle.walks.specs.Each.{Each}
+use Rattle.walks.proofs.Each.{each-map, each-at}
+use Rattle.numbers.proofs.Test.{cond-both}
 use Rattle.blur.proofs.Sorting.{each-insert, length-sort}
 
 abbrev pub bit : Bool → ℕ
@@ -39,10 +40,6 @@ count-le p (x ∷ l) = let h = count-le p l in go (p x) h
     go false h = omega arith
 
 -- ---- `under` grows with its bound
-pub bit-yes : (b : Bool) → T b → bit b ≡ 1
-bit-yes true t = refl
-bit-yes false t = absurd t
-
 less : (y t u : ℕ) → t ≤ u → bit (ltb y t) ≤ bit (ltb y u)
 less y t u h = go (ltb y t) (ltb→lt y t)
   where
@@ -63,13 +60,12 @@ at-unique k x y l a b = go (ltb x y) (ltb y x) (ltb→lt x y) (nltb→le x y) (l
     go false false f f′ g g′ = omega (arith, f′ tt, g′ tt)
 
 -- ---- sorting keeps `under`, and gives an ascending list
-count-cond : (p : ℕ → Bool) (b : Bool) (l m : List ℕ) (n : ℕ) → count p l ≡ n → count p m ≡ n → count p (cond b l m) ≡ n
-count-cond p true l m n e f = e
-count-cond p false l m n e f = f
-
 pub count-insert : (p : ℕ → Bool) (x : ℕ) (l : List ℕ) → count p (insert leb x l) ≡ bit (p x) + count p l
 count-insert p x [] = refl
-count-insert p x (y ∷ l) = count-cond p (leb x y) (x ∷ (y ∷ l)) (y ∷ insert leb x l) _ refl (omega (arith, count-insert p x l))
+count-insert p x (y ∷ l) =
+    cond-both (λ (k : List ℕ). count p k ≡ bit (p x) + count p (y ∷ l)) (leb x y) (x ∷ (y ∷ l)) (y ∷ insert leb x l)
+    refl
+    (omega (arith, count-insert p x l))
 
 pub count-sort : (p : ℕ → Bool) (l : List ℕ) → count p (sort leb l) ≡ count p l
 count-sort p [] = refl
@@ -83,7 +79,8 @@ insert-ascending : (x : ℕ) (l : List ℕ) → Ascending l → Ascending (inser
 insert-ascending x [] a = (tt, tt)
 insert-ascending x (y ∷ l) a = go (leb x y) (leb→le x y) (nleb→lt x y) (insert-ascending x l (a .1))
   where
-    go : (b : Bool) → (T b → x ≤ y) → (T (not b) → y < x) → Ascending (insert leb x l) → Ascending (cond b (x ∷ (y ∷ l)) (y ∷ insert leb x l))
+    go : (b : Bool) → (T b → x ≤ y) → (T (not b) → y < x) → Ascending (insert leb x l)
+        → Ascending (cond b (x ∷ (y ∷ l)) (y ∷ insert leb x l))
     go true f g i = ((f tt, each-map (y ≤_) (x ≤_) (λ z h. le-trans (f tt) h) l (a .0)), a)
     go false f g i = (each-insert (y ≤_) leb x l (omega (arith, g tt)) (a .0), i)
 
@@ -98,12 +95,21 @@ under-none x (y ∷ l) e = rw (le-ltb y x (e .0)) (omega (arith, under-none x l 
 
 ascending-at : (l : List ℕ) (k d : ℕ) → Ascending l → k < length l → At k (getD l k d) l
 ascending-at [] k d a h = absurd (omega arith)
-ascending-at (x ∷ l) zero d a h = record { below = rw (le-ltb x x (omega arith)) (omega (arith, under-none x l (a .0))); upTo = rw (lt-ltb x (suc x) (omega arith)) (omega arith) }
+ascending-at (x ∷ l) zero d a h =
+    record {
+      below = rw (le-ltb x x (omega arith)) (omega (arith, under-none x l (a .0)));
+      upTo =
+          rw (lt-ltb x (suc x) (omega arith)) (omega arith);
+    }
 ascending-at (x ∷ l) (suc k) d a h =
     let z = getD l k d in
     let r : At k z l = ascending-at l k d (a .1) (omega arith) in
     let w : x ≤ z = each-at (x ≤_) l k d (a .0) (omega arith) in
-    record { below = omega (arith, bit-le (ltb x z), r .below); upTo = rw (lt-ltb x (suc z) (omega arith)) (omega (arith, r .upTo)) }
+    record {
+      below = omega (arith, bit-le (ltb x z), r .below);
+      upTo =
+          rw (lt-ltb x (suc z) (omega arith)) (omega (arith, r .upTo));
+    }
   where
     bit-le : (b : Bool) → bit b ≤ 1
     bit-le true = omega arith
@@ -115,7 +121,11 @@ pub sorted-at : (l : List ℕ) (k d : ℕ) → k < length l → At k (getD (sort
 sorted-at l k d h =
     let x = getD (sort leb l) k d in
     let r = ascending-at (sort leb l) k d (sort-ascending l) (omega (arith, length-sort leb l)) in
-    record { below = omega (arith, count-sort (λ y. ltb y x) l, r .below); upTo = omega (arith, count-sort (λ y. ltb y (suc x)) l, r .upTo) }
+    record {
+      below = omega (arith, count-sort (λ y. ltb y x) l, r .below);
+      upTo =
+          omega (arith, count-sort (λ y. ltb y (suc x)) l, r .upTo);
+    }
 
 pub at-sorted : (l : List ℕ) (k d x : ℕ) → k < length l → At k x l → x ≡ getD (sort leb l) k d
 at-sorted l k d x h a = at-unique k x (getD (sort leb l) k d) l a (sorted-at l k d h)

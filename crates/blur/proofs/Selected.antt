@@ -15,9 +15,10 @@ use borrow.Author.Tests.{eqb-false}
 use Rattle.swings.specs.declared.Swing.{Swing}
 use Rattle.blur.specs.declared.select.Pass.{Pass}
 use Rattle.blur.specs.Median.{kept, sort, median, lengthFrom, lengthOf}
-use Rattle.swings.specs.Each.{Each}
-use Rattle.blur.specs.Select.{high, passed, tallied, passAll, tallyAll, zeros, answered, Countable, Countables, Positive, Widths}
-use Rattle.swings.proofs.Each.{each-take, each-at}
+use Rattle.walks.specs.Each.{Each}
+use Rattle.blur.specs.Select.{high, passed, tallied, passAll, tallyAll, zeros, answered, TallyAsked, PassAsked}
+use Rattle.blur.specs.Select.{Positive, Widths}
+use Rattle.walks.proofs.Each.{each-take, each-at}
 use Rattle.blur.proofs.Sorting.{median-each}
 use Rattle.blur.proofs.Place.{count-le, at-sorted}
 use Rattle.blur.proofs.Keys.{bits-at}
@@ -27,31 +28,48 @@ use Rattle.blur.proofs.Passes.{keys, kept-each, length-keys, length-kep
 use Rattle.blur.proofs.Rounds.{cells, length-cells, State, Known, pos-of}
 
 -- ---- what a pass asks for, record by record
-countable : (j : ℕ) (l : List Swing) (d : Swing) (a : Pass) → a .shift ≤ 52 → a .count ≡ 0 → Widths l → length l < 2 ^ 32 → j < length l
-    → Countable (getD l j d) (passAll (take j l) a) (tallyAll (take j l) a zeros)
+countable : (j : ℕ) (l : List Swing) (d : Swing) (a : Pass) → a .shift ≤ 52 → a .count ≡ 0 → Widths l
+    → length l < 2 ^ 32 → j < length l
+    → TallyAsked (getD l j d) (passAll (take j l) a) (tallyAll (take j l) a zeros)
 countable j l d a low none e n h =
     let s = getD l j d in
     let m = take j l in
     let b = passAll m a in
-    let few : length (keys (a .strongest) m) ≤ j = omega (arith, length-keys (a .strongest) m, length-kept (a .strongest) m, length-take j l) in
+    let few : length (keys (a .strongest) m) ≤ j =
+    omega (arith, length-keys (a .strongest) m, length-kept (a .strongest) m, length-take j l) in
     let place : high s b % 8192 < 8192 = mod-lt (high s b) (lit< tt) in
     record {
       number = positive-number (s .width) (each-at (λ (t : Swing). Positive binary64 (t .width)) l j d e h .above);
       below = omega (arith, ap (λ (c : Pass). c .shift) (passAll-is m a), low);
       digits = length-cells m a;
-      room = omega (arith, cells m a (high s b % 8192) place, count-le (λ y. eqb (y / 2 ^ a .shift) (a .prefix * 8192 + high s b % 8192)) (keys (a .strongest) m));
-      few = omega (arith, passAll-count m a, none, count-le (λ y. eqb (y / 2 ^ a .shift / 8192) (a .prefix)) (keys (a .strongest) m));
+      room = omega (
+        arith,
+        cells m a (high s b % 8192) place,
+        count-le
+            (λ y. eqb (y / 2 ^ a .shift) (a .prefix * 8192 + high s b % 8192)) (keys (a .strongest) m),
+      );
+      few = omega (
+        arith,
+        passAll-count m a,
+        none,
+        count-le (λ y. eqb (y / 2 ^ a .shift / 8192) (a .prefix))
+            (keys (a .strongest) m),
+      );
     }
 
 pointwise : (l : List Swing) (d : Swing) (a : Pass) (cs : List ℕ)
-    → ((j : ℕ) → j < length l → Countable (getD l j d) (passAll (take j l) a) (tallyAll (take j l) a cs)) → Countables l a cs
+    → ((j : ℕ) → j < length l → TallyAsked (getD l j d) (passAll (take j l) a) (tallyAll (take j l) a cs))
+    → PassAsked l a cs
 pointwise [] d a cs h = tt
-pointwise (s ∷ l) d a cs h = (h 0 (omega arith), pointwise l d (passed s a) (tallied s a cs) (λ j k. h (suc j) (omega arith)))
+pointwise (s ∷ l) d a cs h =
+    (h 0 (omega arith), pointwise l d (passed s a) (tallied s a cs) (λ j k. h (suc j) (omega arith)))
 
-pub countables : (m : ℕ) (l : List Swing) (d : Swing) (a : Pass) → Known l a → Widths l → length l < 2 ^ 32 → Countables (take m l) a zeros
+pub countables : (m : ℕ) (l : List Swing) (d : Swing) (a : Pass) → Known l a → Widths l → length l < 2 ^ 32
+    → PassAsked (take m l) a zeros
 countables m l d a k e n =
     pointwise (take m l) d a zeros
-    (λ j h. countable j (take m l) d a (omega (arith, k .step, k .most)) (k .none) (each-take (λ (s : Swing). Positive binary64 (s .width)) m l e) (omega (arith, length-take m l)) h)
+    (λ j h. countable j (take m l) d a (omega (arith, k .step, k .most)) (k .none)
+    (each-take (λ (s : Swing). Positive binary64 (s .width)) m l e) (omega (arith, length-take m l)) h)
 
 -- ---- the median
 module _ (l : List Swing) (a : Pass) (s : State l 1 a) (e : Widths l) where
@@ -65,7 +83,8 @@ module _ (l : List Swing) (a : Pass) (s : State l 1 a) (e : Widths l) where
   found-key h =
       let ks = keys (a .strongest) l in
       let n : length ks ≡ length ws = length-keys (a .strongest) l in
-      at-sorted ks (length ks / 2) (toBits binary64 nan) (a .prefix) (omega arith) (narrowed-at (length ks / 2) (a .prefix) (a .place) ks (s .found (omega arith)))
+      at-sorted ks (length ks / 2) (toBits binary64 nan) (a .prefix) (omega arith)
+      (narrowed-at (length ks / 2) (a .prefix) (a .place) ks (s .found (omega arith)))
       ∙ ap (λ (k : ℕ). getD (sort leb ks) (k / 2) (toBits binary64 nan)) n
       ∙ bits-at binary64 ws (length ws / 2) nan widths
 
@@ -77,7 +96,8 @@ module _ (l : List Swing) (a : Pass) (s : State l 1 a) (e : Widths l) where
 
   found-number : 0 < length ws → T (not (nanBits binary64 (a .prefix)))
   unfolding nanBits
-  found-number h = rw (nanBits-is binary64 (a .prefix), found-median h) (positive-number (median ws) (median-positive h .above))
+  found-number h = rw (nanBits-is binary64 (a .prefix), found-median h)
+      (positive-number (median ws) (median-positive h .above))
 
   kept-is : a .kept ≡ length ws
   kept-is = s .all ∙ length-keys (a .strongest) l
@@ -90,8 +110,10 @@ module _ (l : List Swing) (a : Pass) (s : State l 1 a) (e : Widths l) where
       go false q = rw (kept-is, found-median (pos-of (length ws) (eqb-false (length ws) 0 q))) refl
 
 -- ---- the whole
-pub passes-number : (l : List Swing) (a : Pass) → Known l a → Widths l → a .left ≡ 0 → 0 < a .kept → T (not (nanBits binary64 (a .prefix)))
+pub passes-number : (l : List Swing) (a : Pass) → Known l a → Widths l → a .left ≡ 0 → 0 < a .kept
+    → T (not (nanBits binary64 (a .prefix)))
 passes-number l a k e off h = found-number l a (k .done off) e (omega (arith, kept-is l a (k .done off) e))
 
-pub passes-length : (l : List Swing) (a : Pass) (m : ℕ) → Known l a → Widths l → a .left ≡ 0 → answered a m ≡ lengthOf l m
+pub passes-length : (l : List Swing) (a : Pass) (m : ℕ) → Known l a → Widths l → a .left ≡ 0
+    → answered a m ≡ lengthOf l m
 passes-length l a m k e off = found-length l a (k .done off) e m ∙ ap (λ (t : ℤ). lengthFrom (kept t l) m) (k .top)

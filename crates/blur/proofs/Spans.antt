@@ -11,9 +11,9 @@ use borrow.Author.Tests.{ltb-false}
 use Rattle.swings.specs.declared.Swing.{Swing}
 use Rattle.swings.specs.declared.scan.Span.{Span}
 use Rattle.swings.specs.Scan.{lesser, greater, widenedBy, spanFrom, spanOf}
-use Rattle.swings.specs.Each.{Each}
+use Rattle.walks.specs.Each.{Each}
 use Rattle.blur.specs.Select.{Positive, Widths}
-use Rattle.swings.proofs.Each.{each-map}
+use Rattle.walks.proofs.Each.{each-map}
 use Rattle.blur.proofs.Keys.{bits-mono}
 
 abbrev key : Float → ℕ
@@ -56,15 +56,37 @@ module _ (a b : Float) (p : Positive binary64 a) (q : Positive binary64 b) where
   lesser-least = go (lt b a) refl
     where
       go : (t : Bool) → lt b a ≡ t → Least a b (cond t b a)
-      go true e = record { own = q; first = bits-mono binary64 b a (q .above) (p .above) (less-le b a e); second = le-refl _ }
-      go false e = record { own = p; first = le-refl _; second = bits-mono binary64 a b (p .above) (q .above) (cross→le a b (p .above) (q .above) (not-less-cross b a (q .above) (p .above) e)) }
+      go true e = record {
+        own = q;
+        first = bits-mono binary64 b a (q .above) (p .above) (less-le b a e);
+        second =
+            le-refl _;
+      }
+      go false e = record {
+        own = p;
+        first = le-refl _;
+        second =
+            bits-mono binary64 a b (p .above) (q .above)
+            (cross→le a b (p .above) (q .above) (not-less-cross b a (q .above) (p .above) e));
+      }
 
   greater-greatest : Greatest a b (greater a b)
   greater-greatest = go (lt a b) refl
     where
       go : (t : Bool) → lt a b ≡ t → Greatest a b (cond t b a)
-      go true e = record { own = q; first = bits-mono binary64 a b (p .above) (q .above) (less-le a b e); second = le-refl _ }
-      go false e = record { own = p; first = le-refl _; second = bits-mono binary64 b a (q .above) (p .above) (cross→le b a (q .above) (p .above) (not-less-cross a b (p .above) (q .above) e)) }
+      go true e = record {
+        own = q;
+        first = bits-mono binary64 a b (p .above) (q .above) (less-le a b e);
+        second =
+            le-refl _;
+      }
+      go false e = record {
+        own = p;
+        first = le-refl _;
+        second =
+            bits-mono binary64 b a (q .above) (p .above)
+            (cross→le b a (q .above) (p .above) (not-less-cross a b (p .above) (q .above) e));
+      }
 
 -- ---- the span of a list
 record Ends (span : Span) : Type 0 where
@@ -95,7 +117,8 @@ spans from (s ∷ l) e ws =
 module _ (l : List Swing) (ws : Widths l) where
   whole : Spans (spanOf []) l (spanOf l)
   unfolding ofBits fits
-  whole = spans (spanOf []) l (record { low = record { above = tt; holds = tt }; high = record { above = tt; holds = tt } }) ws
+  whole = spans (spanOf []) l
+      (record { low = record { above = tt; holds = tt }; high = record { above = tt; holds = tt } }) ws
 
   pub span-numbers : T (not (isNan (spanOf l .least))) × T (not (isNan (spanOf l .greatest)))
   span-numbers = (positive-number _ (whole .ends .low .above), positive-number _ (whole .ends .high .above))
@@ -103,5 +126,8 @@ module _ (l : List Swing) (ws : Widths l) where
   pub span-fits : T (fits binary64 (spanOf l .least))
   span-fits = whole .ends .low .holds
 
-  pub span-within : Each (λ (s : Swing). (key (spanOf l .least) ≤ key (s .width)) × (key (s .width) ≤ key (spanOf l .greatest))) l
-  span-within = each-map (λ (s : Swing). Between (spanOf l) (s .width) (s .width)) (λ (s : Swing). (key (spanOf l .least) ≤ key (s .width)) × (key (s .width) ≤ key (spanOf l .greatest))) (λ s b. (b .from, b .to)) l (whole .each)
+  pub span-within : Each
+      (λ (s : Swing). (key (spanOf l .least) ≤ key (s .width)) × (key (s .width) ≤ key (spanOf l .greatest))) l
+  span-within = each-map (λ (s : Swing). Between (spanOf l) (s .width) (s .width))
+      (λ (s : Swing). (key (spanOf l .least) ≤ key (s .width)) × (key (s .width) ≤ key (spanOf l .greatest)))
+      (λ s b. (b .from, b .to)) l (whole .each)

@@ -40,9 +40,11 @@ median ws = getD (sort le ws) (length ws / 2) nan
 abbrev pub sixTenths : Float
 sixTenths = ofBits binary64 0x3FE3333333333333
 
--- "Fewer than the minimum: Nothing. Else the width .. divided by 0.6." No swing at all gives Nothing whatever the minimum.
+-- "Fewer than the minimum: Nothing. Else the width .. divided by 0.6." No swing at all gives Nothing whatever the
+-- minimum.
 abbrev pub lengthFrom : List Float → ℕ → LineLength
-lengthFrom ws minimum = cond (eqb (length ws) 0 || ltb (length ws) minimum) Nothing (Found (div binary64 (median ws) sixTenths))
+lengthFrom ws minimum =
+    cond (eqb (length ws) 0 || ltb (length ws) minimum) Nothing (Found (div binary64 (median ws) sixTenths))
 
 -- the length that a list of swings gives
 abbrev pub lengthOf : List Swing → ℕ → LineLength
@@ -53,10 +55,14 @@ lengthOf l minimum = lengthFrom (kept (strongest l) l) minimum
 swing : ℕ → ℤ → Swing
 swing bits z = record { width = ofBits binary64 bits; swing = z }
 
--- widths 3.0, 1.0, 2.5, 2.0 of swings 100, 49, 50, 200: the strongest is 200, so 100 and 200 stay, and place 1 is 3.0; 3.0 / 0.6 = 5.0
+-- widths 3.0, 1.0, 2.5, 2.0 of swings 100, 49, 50, 200: the strongest is 200, so 100 and 200 stay, and place 1 is 3.0;
+-- 3.0 / 0.6 = 5.0
 some : List Swing
 unfolding swing
-some = swing 0x4008000000000000 (pos 100) ∷ (swing 0x3FF0000000000000 (pos 49) ∷ (swing 0x4004000000000000 (pos 50) ∷ (swing 0x4000000000000000 (pos 200) ∷ [])))
+some =
+    swing 0x4008000000000000 (pos 100)
+    ∷ (swing 0x3FF0000000000000 (pos 49)
+    ∷ (swing 0x4004000000000000 (pos 50) ∷ (swing 0x4000000000000000 (pos 200) ∷ [])))
 
 example-found : lengthOf some 2 ≡ Found (ofBits binary64 0x4014000000000000)
 unfolding some swing ofBits le div

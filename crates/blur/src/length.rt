@@ -1,9 +1,8 @@
 // How long a smear is: document 01, 'Length'.
 ghost use mathlib.Core.Path.{_≡_};
-ghost use mathlib.Core.Bool.{_||_};
-ghost use lib.Dec.{eqb, ltb};
-ghost use Rattle.swings.specs.Line.{pixelOf};
-ghost use Rattle.blur.specs.Length.{lengthRefusal, tooLittle, courseOf, defaults, Estimated};
+ghost use Rattle.image.specs.Call.{gray8};
+ghost use Rattle.swings.specs.Line.{stepPixels};
+ghost use Rattle.blur.specs.Length.{lengthRefusal, tooLittle, scanPlan, defaults, LengthMeasured};
 ghost use Rattle.raster.specs.Direction.{fromAngle};
 use crate::records::select;
 use crate::select::opened;
@@ -12,8 +11,8 @@ use raster::direction::RasterDirection4;
 use raster::lines::line_count;
 use raster::lines::place_step;
 use swings::Swing;
-use swings::fill;
-use swings::scan::Course;
+use swings::kernel::fill;
+use swings::scan::ScanPlan;
 use swings::scan::begin;
 
 // The smear's length, or nothing to tell it by.
@@ -34,12 +33,17 @@ pub struct LineLengthConfig {
 }
 
 impl LineLengthConfig {
+    // The default thresholds.
+    pub const MINIMUM_TRANSITIONS: usize = 8;
+
+    pub const MINIMUM_AMPLITUDE: u8 = 24;
+
     pub fn default() -> Self
         ensures { λ r. ⌜ r ≡ defaults ⌝ }
     {
         LineLengthConfig {
-            minimum_transitions: 8,
-            minimum_amplitude: 24,
+            minimum_transitions: LineLengthConfig::MINIMUM_TRANSITIONS,
+            minimum_amplitude: LineLengthConfig::MINIMUM_AMPLITUDE,
         }
     }
 }
@@ -80,8 +84,8 @@ fn too_little(
 }
 
 // How far apart the places of a line are.
-fn pixel_of(direction: RasterDirection4) -> f64
-    ensures { λ r. ⌜ r ≡ pixelOf direction ⌝ }
+fn step_pixels(direction: RasterDirection4) -> f64
+    ensures { λ r. ⌜ r ≡ stepPixels direction ⌝ }
 {
     match direction {
         RasterDirection4::Horizontal => 1.0,
@@ -92,7 +96,7 @@ fn pixel_of(direction: RasterDirection4) -> f64
 }
 
 // What is to be scanned: no line where the call is refused, or where nothing can be measured.
-pub(crate) fn course_of(
+pub(crate) fn scan_plan(
     bytes: usize,
     lent: usize,
     width: usize,
@@ -101,12 +105,12 @@ pub(crate) fn course_of(
     direction: RasterDirection4,
     minimum_transitions: usize,
     minimum_amplitude: u8,
-) -> Course
-    ensures { λ r. ⌜ r ≡ courseOf bytes lent width height stride direction «minimum_transitions» «minimum_amplitude» ⌝ }
+) -> ScanPlan
+    ensures { λ r. ⌜ r ≡ scanPlan bytes lent width height stride direction «minimum_transitions» «minimum_amplitude» ⌝ }
 {
     let refusal = length_refusal(bytes, width, height, stride, lent);
-    let pixel = pixel_of(direction);
-    let mut course = Course {
+    let pixel = step_pixels(direction);
+    let mut plan = ScanPlan {
         refusal,
         direction,
         width,
@@ -118,14 +122,14 @@ pub(crate) fn course_of(
         minimum_amplitude,
     };
     if refusal != 0 {
-        return course;
+        return plan;
     }
     if too_little(width, height, minimum_transitions, minimum_amplitude) {
-        return course;
+        return plan;
     }
-    course.count = line_count(direction, width, height);
-    course.step = place_step(direction, stride);
-    course
+    plan.count = line_count(direction, width, height);
+    plan.step = place_step(direction, stride);
+    plan
 }
 
 pub(crate) fn refused(number: u8) -> LengthAnswer
@@ -145,10 +149,10 @@ pub fn estimate_along(
     minimum_amplitude: u8,
     swings: &mut [Swing],
 ) -> LengthAnswer
-    ensures { λ r. ⌜ Estimated (now («data» .entry)) width height stride direction «minimum_transitions» «minimum_amplitude»
-        (now (swings .entry)) (now (swings .exit)) r ⌝ }
+    ensures { λ r. ⌜ LengthMeasured (gray8 (now («data» .entry)) width height stride) direction
+        «minimum_transitions» «minimum_amplitude» (now (swings .entry)) (now (swings .exit)) r ⌝ }
 {
-    let course = course_of(
+    let plan = scan_plan(
         data.len(),
         swings.len(),
         width,
@@ -158,10 +162,10 @@ pub fn estimate_along(
         minimum_transitions,
         minimum_amplitude,
     );
-    if course.refusal != 0 {
-        return refused(course.refusal);
+    if plan.refusal != 0 {
+        return refused(plan.refusal);
     }
-    let s = fill(data, course, begin(), swings);
+    let s = fill(data, plan, begin(), swings);
     select(swings, opened(s), minimum_transitions)
 }
 
@@ -176,8 +180,8 @@ pub fn estimate_at(
     minimum_amplitude: u8,
     swings: &mut [Swing],
 ) -> LengthAnswer
-    ensures { λ r. ⌜ Estimated (now («data» .entry)) width height stride (fromAngle «theta_radians») «minimum_transitions» «minimum_amplitude»
-        (now (swings .entry)) (now (swings .exit)) r ⌝ }
+    ensures { λ r. ⌜ LengthMeasured (gray8 (now («data» .entry)) width height stride) (fromAngle «theta_radians»)
+        «minimum_transitions» «minimum_amplitude» (now (swings .entry)) (now (swings .exit)) r ⌝ }
 {
     estimate_along(
         data,
@@ -200,8 +204,8 @@ pub fn estimate_line_length_with(
     config: LineLengthConfig,
     swings: &mut [Swing],
 ) -> LengthAnswer
-    ensures { λ r. ⌜ Estimated (now («data» .entry)) width height stride (fromAngle «theta_radians») (config .«minimum_transitions») (config .«minimum_amplitude»)
-        (now (swings .entry)) (now (swings .exit)) r ⌝ }
+    ensures { λ r. ⌜ LengthMeasured (gray8 (now («data» .entry)) width height stride) (fromAngle «theta_radians»)
+        (config .«minimum_transitions») (config .«minimum_amplitude») (now (swings .entry)) (now (swings .exit)) r ⌝ }
 {
     estimate_at(
         data,
@@ -224,8 +228,18 @@ pub fn estimate_line_length(
     theta_radians: f64,
     swings: &mut [Swing],
 ) -> LengthAnswer
-    ensures { λ r. ⌜ Estimated (now («data» .entry)) width height stride (fromAngle «theta_radians») (defaults .«minimum_transitions») (defaults .«minimum_amplitude»)
+    ensures { λ r. ⌜ LengthMeasured (gray8 (now («data» .entry)) width height stride) (fromAngle «theta_radians»)
+        (defaults .«minimum_transitions») (defaults .«minimum_amplitude»)
         (now (swings .entry)) (now (swings .exit)) r ⌝ }
 {
-    estimate_at(data, width, height, stride, theta_radians, 8, 24, swings)
+    estimate_at(
+        data,
+        width,
+        height,
+        stride,
+        theta_radians,
+        LineLengthConfig::MINIMUM_TRANSITIONS,
+        LineLengthConfig::MINIMUM_AMPLITUDE,
+        swings,
+    )
 }

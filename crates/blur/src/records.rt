@@ -9,11 +9,11 @@ ghost use mathlib.Core.Path.{_≡_};
 ghost use Prim.Native.Nat.{_≤_};
 ghost use lib.ListN.{length, take};
 ghost use Rattle.blur.specs.Median.{lengthOf};
-ghost use Rattle.blur.specs.Select.{Countables, Passes, Selectable};
+ghost use Rattle.blur.specs.Select.{PassAsked, Passes, SelectAsked};
 
 // One pass over the first n records.
 pub(crate) fn pass(swings: &[Swing], n: usize, first: Pass, counts: &mut [u32]) -> Pass
-    requires { ⌜ (n ≤ length (now swings)) × Countables (take n (now swings)) first (now counts) ⌝ }
+    requires { ⌜ (n ≤ length (now swings)) × PassAsked (take n (now swings)) first (now counts) ⌝ }
     ensures { λ r. ⌜ Passes (take n (now (swings .entry))) first (now (counts .entry)) (now (counts .exit)) r ⌝ }
 {
     let mut a = first;
@@ -27,7 +27,7 @@ pub(crate) fn pass(swings: &[Swing], n: usize, first: Pass, counts: &mut [u32]) 
 
 // The length that the records of a selection give.
 pub(crate) fn select(swings: &[Swing], first: Pass, minimum: usize) -> LengthAnswer
-    requires { ⌜ (first .total ≤ length (now swings)) × Selectable (take (first .total) (now swings)) first ⌝ }
+    requires { ⌜ (first .total ≤ length (now swings)) × SelectAsked (take (first .total) (now swings)) first ⌝ }
     ensures { λ r. ⌜ r ≡ LengthAnswer.Length (lengthOf (take (first .total) (now (swings .entry))) minimum) ⌝ }
 {
     let mut counts = [0u32; 8192];

@@ -1,7 +1,8 @@
 // The width at place count / 2 in ascending order, without sorting: radix selection over the widths' bit patterns,
 // digits of 13 bits, the top digit first. A pass over the list counts the digits of the keys that are still in
-// question; the digit is chosen where the running sum of the counts goes past the wanted place. A pass goes over no record
-// where the least and the greatest width share its digit and those above: there every count would wait for the one before.
+// question; the digit is chosen where the running sum of the counts goes past the wanted place. A pass goes over no
+// record where the least and the greatest width share its digit and those above: there every count would wait for the
+// one before.
 use crate::length::LengthAnswer;
 use crate::length::LineLength;
 use swings::Swing;
@@ -14,11 +15,12 @@ ghost use lib.IntN.{pos, _*ℤ_};
 ghost use lib.Signed.{leZ};
 ghost use lib.ListN.{length, replicate};
 ghost use lib.Ieee.{binary64, isNan, nanBits, toBits};
-ghost use Rattle.blur.specs.Select.{pickFrom, wanted, keptOf, prefixOf, reachOf, started, answered, Countable, Tallied, Narrowable, Narrows};
+ghost use Rattle.blur.specs.Select.{pickFrom, wanted, keptOf, prefixOf, reachOf, started, answered, TallyAsked};
+ghost use Rattle.blur.specs.Select.{Tallied, NarrowAsked, Narrows};
 
-// A pass over the first `reach` of `total` records, with `left` digits to find: `count` records were counted so far, of those
-// that stay and have the digits `prefix` above the digit at `shift`. Of the keys with that prefix the one at `place` is wanted;
-// `kept` swings stay in all, and 0 before they are counted. All keys lie from `low` to `high`.
+// A pass over the first `reach` of `total` records, with `left` digits to find: `count` records were counted so far, of
+// those that stay and have the digits `prefix` above the digit at `shift`. Of the keys with that prefix the one at
+// `place` is wanted; `kept` swings stay in all, and 0 before they are counted. All keys lie from `low` to `high`.
 pub struct Pass {
     pub left: u32,
     pub total: usize,
@@ -66,7 +68,7 @@ fn counted(swing: i32, strongest: i32, high: u64, prefix: u64) -> u32
 
 // One record's step in a pass.
 pub(crate) fn tally(s: Swing, a: Pass, counts: &mut [u32]) -> Pass
-    requires { ⌜ Countable s a (now counts) ⌝ }
+    requires { ⌜ TallyAsked s a (now counts) ⌝ }
     ensures { λ r. ⌜ Tallied s a (now (counts .entry)) (now (counts .exit)) r ⌝ }
 {
     let high = high_digits(s.width, a.shift);
@@ -145,7 +147,8 @@ fn prefix_of(a: Pass, digit: usize) -> u64
     }
 }
 
-// How many records a pass goes over: none where all keys share its digit. The last pass counts what stays, if none did before.
+// How many records a pass goes over: none where all keys share its digit. The last pass counts what stays, if none did
+// before.
 fn reach_of(kept: u32, shift: u32, low: u64, high: u64, total: usize) -> usize
     requires { ⌜ shift < 64 ⌝ }
     ensures { λ r. ⌜ r ≡ reachOf kept shift low high total ⌝ }
@@ -165,7 +168,7 @@ fn reach_of(kept: u32, shift: u32, low: u64, high: u64, total: usize) -> usize
 
 // After a pass: its digit joins the prefix, and the counts are 0 again for the next pass.
 pub(crate) fn narrow(a: Pass, counts: &mut [u32]) -> Pass
-    requires { ⌜ Narrowable a (now counts) ⌝ }
+    requires { ⌜ NarrowAsked a (now counts) ⌝ }
     ensures { λ r. ⌜ Narrows a (now (counts .entry)) (now (counts .exit)) r ⌝ }
 {
     let chosen = choose(counts, place_of(a));

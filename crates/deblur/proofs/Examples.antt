@@ -3,7 +3,7 @@ use mathlib.Core.Path.{_≡_, refl}
 use mathlib.Core.List.{List, [], _∷_, map}
 use Prim.Native.Nat.{ℕ}
 use lib.IntN.{ℤ, pos, negsuc}
-use lib.Ieee.{Float, binary64, ofBits}
+use lib.Ieee.{binary64, ofBits}
 use Rattle.numbers.specs.Scalar.{clampByte}
 use Rattle.numbers.specs.Sum.{total}
 use Rattle.floats.specs.Factor.{within}
@@ -13,12 +13,13 @@ use Rattle.raster.specs.Border.{borderMap}
 use Rattle.raster.specs.Lines.{startCol, startRow, lineOf}
 use Rattle.raster.specs.declared.border.LineBorderMode.the-variants.{Replicate, Constant}
 use Rattle.raster.specs.declared.direction.RasterDirection4.the-variants.{Horizontal, DownLeft}
-use Rattle.line.specs.Line.{sample, window, mean, stepped, after}
-use Rattle.deblur.specs.declared.LineSettings.{LineSettings}
-use Rattle.deblur.specs.declared.LineFilter.{LineFilter}
-use Rattle.deblur.specs.declared.LineFilter.the-variants.{Restoration, Unsharp}
+use Rattle.line.specs.Iteration.{mean, stepped, after}
+use Rattle.line.specs.Line.{sample, window}
+use Rattle.deblur.specs.declared.DirectionalUnsharpConfig.{DirectionalUnsharpConfig}
+use Rattle.deblur.specs.declared.VanCittertConfig.{VanCittertConfig}
 use Rattle.deblur.specs.Picture.{estimate, estimateOn}
-use Rattle.deblur.specs.Refusal.{settingsRefusal, filterRefusal, estimateRefusal}
+use Rattle.deblur.specs.Refusal.{blurLengthRefusal, angleRefusal, factorRefusal, iterationsRefusal}
+use Rattle.deblur.specs.Refusal.{restorationRefusal, unsharpRefusal, filterRefusal, estimateRefusal}
 
 -- ---- "Restoration and line unsharp": row 10 10 40 10 10, L = 3, Replicate, Horizontal
 
@@ -58,72 +59,83 @@ diagonal = refl
 
 -- ---- "Refusals"
 
--- by the bits of the angle and of the factor
-settings : ℕ → ℕ → ℕ → (Float → LineFilter) → ℕ → LineSettings
-settings angle length iterations filter factor =
+-- by the bits of the angle and of the relaxation
+restoring : ℕ → ℕ → ℕ → ℕ → VanCittertConfig
+restoring angle length iterations relaxation =
     record {
       «theta_radians» = ofBits binary64 angle;
       «blur_length» = length;
       iterations = iterations;
-      filter = filter (ofBits binary64 factor);
+      relaxation = ofBits binary64 relaxation;
       border = Replicate;
     }
 
 -- angle 0.0, relaxation 1.0
-restoring : ℕ → ℕ → LineSettings
-unfolding settings
-restoring length iterations = settings 0 length iterations Restoration 0x3ff0_0000_0000_0000
+plain : ℕ → ℕ → ℕ
+unfolding restoring
+plain length iterations = restorationRefusal 5 1 (restoring 0 length iterations 0x3ff0_0000_0000_0000)
 
 -- on 5 by 1, length 11 is accepted, 13 gives 7
-lengths : map (λ (length : ℕ). settingsRefusal 5 1 (restoring length 3)) (1 ∷ 2 ∷ 3 ∷ 4 ∷ 11 ∷ 12 ∷ 13 ∷ []) ≡ 7 ∷ 7 ∷ 0 ∷ 7 ∷ 0 ∷ 7 ∷ 7 ∷ []
-unfolding settingsRefusal settings restoring within ofBits
+lengths : map (λ (length : ℕ). plain length 3) (1 ∷ 2 ∷ 3 ∷ 4 ∷ 11 ∷ 12 ∷ 13 ∷ []) ≡ 7 ∷ 7 ∷ 0 ∷ 7 ∷ 0 ∷ 7 ∷ 7 ∷ []
+unfolding plain restoring blurLengthRefusal angleRefusal factorRefusal iterationsRefusal within ofBits
 lengths = refl
 
 -- the largest finite angle, infinity, not a number
 angles :
-    map (λ (angle : ℕ). settingsRefusal 5 1 (settings angle 3 3 Restoration 0)) (0x7fef_ffff_ffff_ffff ∷ 0x7ff0_0000_0000_0000 ∷ 0x7ff8_0000_0000_0000 ∷ [])
+    map (λ (angle : ℕ). restorationRefusal 5 1 (restoring angle 3 3 0))
+    (0x7fef_ffff_ffff_ffff ∷ 0x7ff0_0000_0000_0000 ∷ 0x7ff8_0000_0000_0000 ∷ [])
     ≡ 0 ∷ 7 ∷ 7 ∷ []
-unfolding settingsRefusal settings within ofBits
+unfolding restoring blurLengthRefusal angleRefusal factorRefusal iterationsRefusal within ofBits
 angles = refl
 
--- relaxation −0.0, 1.0, the next double above it, not a number; gain 8.0 and the next
+-- relaxation −0.0, 1.0, the next double above it, not a number
 relaxations :
-    map (λ (factor : ℕ). settingsRefusal 5 1 (settings 0 3 3 Restoration factor))
+    map (λ (relaxation : ℕ). restorationRefusal 5 1 (restoring 0 3 3 relaxation))
     (0x8000_0000_0000_0000 ∷ 0x3ff0_0000_0000_0000 ∷ 0x3ff0_0000_0000_0001 ∷ 0x7ff8_0000_0000_0000 ∷ [])
     ≡ 0 ∷ 0 ∷ 8 ∷ 8 ∷ []
-unfolding settingsRefusal settings within ofBits
+unfolding restoring blurLengthRefusal angleRefusal factorRefusal iterationsRefusal within ofBits
 relaxations = refl
 
-gains :
-    map (λ (factor : ℕ). settingsRefusal 5 1 (settings 0 3 1 Unsharp factor)) (0x4020_0000_0000_0000 ∷ 0x4020_0000_0000_0001 ∷ []) ≡ 0 ∷ 8 ∷ []
-unfolding settingsRefusal settings within ofBits
+-- gain 8.0 and the next
+sharpening : ℕ → DirectionalUnsharpConfig
+sharpening gain =
+    record { «theta_radians» = ofBits binary64 0; «blur_length» = 3; gain = ofBits binary64 gain; border = Replicate }
+
+gains : map (λ (gain : ℕ). unsharpRefusal 5 1 (sharpening gain)) (0x4020_0000_0000_0000 ∷ 0x4020_0000_0000_0001 ∷ [])
+    ≡ 0 ∷ 8 ∷ []
+unfolding sharpening blurLengthRefusal angleRefusal factorRefusal within ofBits
 gains = refl
 
 -- 22 iterations are accepted, 23 give 9
-iteration-limits : map (λ (iterations : ℕ). settingsRefusal 5 1 (restoring 3 iterations)) (0 ∷ 1 ∷ 22 ∷ 23 ∷ []) ≡ 8 ∷ 0 ∷ 0 ∷ 9 ∷ []
-unfolding settingsRefusal settings restoring within ofBits
+iteration-limits : map (plain 3) (0 ∷ 1 ∷ 22 ∷ 23 ∷ []) ≡ 8 ∷ 0 ∷ 0 ∷ 9 ∷ []
+unfolding plain restoring blurLengthRefusal angleRefusal factorRefusal iterationsRefusal within ofBits
 iteration-limits = refl
 
+-- 8 comes before 9
+factor-first : restorationRefusal 5 1 (restoring 0 3 23 0x7ff8_0000_0000_0000) ≡ 8
+unfolding restoring blurLengthRefusal angleRefusal factorRefusal iterationsRefusal within ofBits
+factor-first = refl
+
 -- 10 on 5 by 1: scratch of 14 and 15, an estimate's destination of 4 and 5
-scratch-limits : map (filterRefusal 5 5 1 5 5 5 1 5 (restoring 3 3)) (14 ∷ 15 ∷ []) ≡ 10 ∷ 0 ∷ []
-unfolding filterRefusal pairRefusal layoutRefusal settingsRefusal settings restoring within ofBits
+scratch-limits : map (filterRefusal 5 5 1 5 5 5 1 5 0) (14 ∷ 15 ∷ []) ≡ 10 ∷ 0 ∷ []
+unfolding filterRefusal pairRefusal layoutRefusal
 scratch-limits = refl
 
-estimate-limits :
-    map (estimateRefusal 5 5 1 5 5 (restoring 3 3)) (14 ∷ 15 ∷ []) ≡ 10 ∷ 0 ∷ []
-unfolding estimateRefusal layoutRefusal settingsRefusal settings restoring within ofBits
+estimate-limits : map (estimateRefusal 5 5 1 5 5 0) (14 ∷ 15 ∷ []) ≡ 10 ∷ 0 ∷ []
+unfolding estimateRefusal layoutRefusal
 estimate-limits = refl
 
-destination-limits : map (λ (len : ℕ). estimateRefusal 5 5 1 5 len (restoring 3 3) 15) (4 ∷ 5 ∷ []) ≡ 10 ∷ 0 ∷ []
-unfolding estimateRefusal layoutRefusal settingsRefusal settings restoring within ofBits
+destination-limits : map (λ (len : ℕ). estimateRefusal 5 5 1 5 len 0 15) (4 ∷ 5 ∷ []) ≡ 10 ∷ 0 ∷ []
+unfolding estimateRefusal layoutRefusal
 destination-limits = refl
 
--- 7 comes before 8, 8 before 10, 9 before 10, 4 before all of them
-in-order :
-    map (λ (s : LineSettings). filterRefusal 5 5 1 5 5 5 1 5 s 14) (restoring 2 0 ∷ restoring 3 0 ∷ restoring 3 23 ∷ []) ≡ 7 ∷ 8 ∷ 9 ∷ []
-unfolding filterRefusal pairRefusal layoutRefusal settingsRefusal settings restoring within ofBits
+-- 7 comes before 8; 7, 8 and 9 before 10; 4 before all of them
+in-order : map (λ (settings : ℕ). filterRefusal 5 5 1 5 5 5 1 5 settings 14) (plain 2 0 ∷ plain 3 0 ∷ plain 3 23 ∷ [])
+    ≡ 7 ∷ 8 ∷ 9 ∷ []
+unfolding filterRefusal pairRefusal layoutRefusal plain restoring blurLengthRefusal angleRefusal factorRefusal
+    iterationsRefusal within ofBits
 in-order = refl
 
-layout-first : filterRefusal 4 5 1 5 5 5 1 5 (restoring 2 23) 14 ≡ 4
-unfolding filterRefusal pairRefusal layoutRefusal settingsRefusal settings restoring within ofBits
+layout-first : filterRefusal 4 5 1 5 5 5 1 5 7 14 ≡ 4
+unfolding filterRefusal pairRefusal layoutRefusal
 layout-first = refl

@@ -1,10 +1,9 @@
 -- The laws of `deblur`, by subject.
+pub mod Along
+pub mod Calls
 pub mod Examples
-pub mod Factors
 pub mod LineByLine
-pub mod Outcomes
 pub mod PictureLaws
 pub mod Refusals
 pub mod RowStride
 pub mod Scattering
-pub mod Settling

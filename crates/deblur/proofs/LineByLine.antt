@@ -1,5 +1,6 @@
--- Laws of the loop over the lines of a direction, over any element of the destination: what a line asks of an accepted picture (`line-laid`, `scatter-asked`), its estimates
--- from its bytes (`line-estimates`), and one line more of the destination (`lines-begun`, `lines-further`, `lines-done`).
+-- Laws of the loop over the lines of a direction, over any element of the destination: what a line asks of an accepted
+-- picture (`line-laid`, `scatter-asked`), its estimates from its bytes (`line-estimates`), and one line more of the
+-- destination (`lines-begun`, `lines-further`, `lines-done`).
 use mathlib.Core.Path.{_≡_, refl, sym, _∙_}
 use mathlib.Core.List.{List}
 use Prim.Native.Nat.{ℕ, _+_, _-_, _*_, _/_, _%_, _≤_, _<_}
@@ -12,7 +13,7 @@ use Rattle.numbers.proofs.Written.{written-none, written-same}
 use Rattle.image.specs.Refusal.{Laid}
 use Rattle.image.specs.Picture.{pixel}
 use Rattle.raster.specs.Border.{borderValue}
-use Rattle.raster.specs.Lines.{Sides, lineCount, lineLength, lineAt, byteOf, placeStep}
+use Rattle.raster.specs.Lines.{Sides, lineCount, lineLength, scanLineAt, byteOf, placeStep}
 use Rattle.raster.specs.declared.direction.RasterDirection4.{RasterDirection4}
 use Rattle.raster.specs.declared.lines.ScanLine.{ScanLine}
 use Rattle.raster.proofs.BorderMap.{border-lawful}
@@ -20,15 +21,22 @@ use Rattle.raster.proofs.Place.{line-in}
 use Rattle.raster.proofs.Scatter.{startByte, linesBelow, step-or-one, line-byte-lt, lines-none, lines-whole}
 use Rattle.line.specs.declared.kernel.LineKernel.{LineKernel}
 use Rattle.line.specs.Kernel.{LineLaid, LineRestored, bytesOn, lineAt as estimateAt}
-use Rattle.line.proofs.LineSame.{after-same}
+use Rattle.line.proofs.LineWindow.{after-same}
 use Rattle.deblur.specs.Scatter.{ScatterAsked, Scattered}
-use Rattle.deblur.specs.Lines.{kernelOn, kernelEstimate, ScanLineRestored}
+use Rattle.deblur.specs.Lines.{kernelOn, kernelEstimate, SourceAsked, LinesAsked, ScanLineRestored}
 use Rattle.deblur.specs.Picture.{samples}
+use Rattle.deblur.specs.Refusal.{scratchNeeded}
 use Rattle.deblur.proofs.PictureLaws.{samples-byte, estimate-on, lines-step}
 
 module _ {len w h stride : ℕ} (l : Laid len w h stride) where
   pub sides : Sides w h
-  sides = record { some-columns = l .width-pos; some-rows = l .height-pos; few-columns = l .width-most; few-rows = l .height-most }
+  sides = record {
+    some-columns = l .width-pos;
+    some-rows = l .height-pos;
+    few-columns = l .width-most;
+    few-rows = l
+        .height-most;
+  }
 
   module _ (d : RasterDirection4) (k : ℕ) (below : k < lineCount d w h) where
     abbrev start : ℕ
@@ -42,12 +50,17 @@ module _ {len w h stride : ℕ} (l : Laid len w h stride) where
 
     -- place i lies in the list
     reached : (i : ℕ) → i < n → start + i * step < len
-    reached i b = omega (arith, line-byte-lt d w h stride (l .width-pos) (l .stride-least) k below i b, l .len-least, mul-comm stride (h - 1))
+    reached i b = omega (
+      arith,
+      line-byte-lt d w h stride (l .width-pos) (l .stride-least) k below i b,
+      l .len-least,
+      mul-comm stride (h - 1),
+    )
 
     pub start-in : start < len
     start-in = omega (arith, reached 0 (line-in d w h k (l .width-pos) (l .height-pos) below .some), zero-mul step)
 
-    laid-at : (scratchLen : ℕ) → 3 * (w * h) ≤ scratchLen → LineLaid len start step n scratchLen
+    laid-at : (scratchLen : ℕ) → scratchNeeded w h ≤ scratchLen → LineLaid len start step n scratchLen
     laid-at scratchLen room =
         let i = line-in d w h k (l .width-pos) (l .height-pos) below in
         let short = i .short in
@@ -58,16 +71,22 @@ module _ {len w h stride : ℕ} (l : Laid len w h stride) where
         let mh = l .height-most in
         record { some = some; short = omega arith; reached = reached (n - 1) (omega arith); room = omega arith }
 
-    module _ (line : ScanLine) (e : line ≡ lineAt d w h k) (s : ℕ) (f : s ≡ step) where
+    module _ (line : ScanLine) (e : line ≡ scanLineAt d w h k) (s : ℕ) (f : s ≡ step) where
       pub line-start : byteOf stride (line .col) (line .row) < len
       line-start = rw e start-in
 
-      pub line-laid : (scratchLen : ℕ) → 3 * (w * h) ≤ scratchLen → LineLaid len (byteOf stride (line .col) (line .row)) s (line .len) scratchLen
+      pub line-laid : (scratchLen : ℕ) → scratchNeeded w h ≤ scratchLen
+          → LineLaid len (byteOf stride (line .col) (line .row)) s (line .len) scratchLen
       line-laid scratchLen room = rw (e, f) (laid-at scratchLen room)
 
-      pub scatter-asked : (scratchLen : ℕ) → 3 * (w * h) ≤ scratchLen → ScatterAsked len (byteOf stride (line .col) (line .row)) s (line .len) scratchLen
+      pub scatter-asked : (scratchLen : ℕ) → scratchNeeded w h ≤ scratchLen
+          → ScatterAsked len (byteOf stride (line .col) (line .row)) s (line .len) scratchLen
       scatter-asked scratchLen room =
-          rw (e, f) (record { laid = laid-at scratchLen room; apart = step-or-one d w h stride k (l .width-pos) (l .stride-least) })
+          rw (e, f) (record {
+            laid = laid-at scratchLen room;
+            apart = step-or-one d w h stride k (l .width-pos)
+                (l .stride-least);
+          })
 
       pub line-estimates : (src : List ℕ) (kernel : LineKernel) (scratch : List ℤ) → borderValue (kernel .border) ≤ 255
           → LineRestored src (byteOf stride (line .col) (line .row)) s (line .len) kernel scratch
@@ -79,31 +98,65 @@ module _ {len w h stride : ℕ} (l : Laid len w h stride) where
           let R′ : LineRestored src start step n kernel scratch = rw (e, f) at R in
           R′ p b
           ∙ after-same (border-lawful (kernel .border) n some byte) (bytesOn src start step) (samples px d w k)
-          (λ i hi. sym (samples-byte src d w h stride k i (omega (arith, l .width-pos)) hi)) (kernel .q) (kernel .«blur_length») (kernel .iterations) p b
+          (λ i hi. sym (samples-byte src d w h stride k i (omega (arith, l .width-pos)) hi)) (kernel .q)
+          (kernel .«blur_length») (kernel .iterations) p b
           ∙ sym (estimate-on px d w h (kernel .border) (kernel .«blur_length») (kernel .q) (kernel .iterations) k p)
 
 -- ---- the destination: g of the estimate at the pixels of the lines below k
 
-abbrev pub LinesTo : {A : Type 0} → A → (ℤ → A) → List ℕ → ℕ → ℕ → ℕ → ℕ → RasterDirection4 → LineKernel → ℕ → List A → List A → Type 0
+abbrev pub LinesTo : {A : Type 0} → A → (ℤ → A) → List ℕ → ℕ → ℕ → ℕ → ℕ → RasterDirection4 → LineKernel → ℕ → List A
+    → List A → Type 0
 LinesTo z g src w h stride dstStride d kernel k old new =
-    Written z (linesBelow d w h dstStride k) (λ j. g (kernelEstimate src w h stride d kernel (j % dstStride) (j / dstStride))) old new
+    Written z (linesBelow d w h dstStride k) (λ j. g
+    (kernelEstimate src w h stride d kernel (j % dstStride) (j / dstStride))) old new
 
-module _ {A : Type 0} {z : A} (g : ℤ → A) (src : List ℕ) (w h stride dstStride : ℕ) (d : RasterDirection4) (kernel : LineKernel) {old : List A} where
+module _ {A : Type 0} {z : A} (g : ℤ → A) (src : List ℕ) (w h stride dstStride : ℕ) (d : RasterDirection4)
+    (kernel : LineKernel) {old : List A} where
   pub lines-begun : LinesTo z g src w h stride dstStride d kernel 0 old old
   lines-begun = written-none (λ j _. lines-none d w h dstStride j)
 
   module _ {dstLen : ℕ} (l : Laid dstLen w h dstStride) {k : ℕ} where
-    pub lines-further : {mid new : List A} {scratch : List ℤ} {line : ScanLine} (s : ℕ) → s ≡ placeStep d dstStride → k < lineCount d w h
+    pub lines-further : {mid new : List A} {scratch : List ℤ} {line : ScanLine} (s : ℕ) → s ≡ placeStep d dstStride
+        → k < lineCount d w h
         → ScanLineRestored src w h stride d k kernel scratch line
         → LinesTo z g src w h stride dstStride d kernel k old mid
         → Scattered z g (line .len) scratch (byteOf dstStride (line .col) (line .row)) s mid new
         → LinesTo z g src w h stride dstStride d kernel (k + 1) old new
     lines-further {mid} {new} {scratch} {line} s f below R W S =
-        let S′ : Scattered z g (lineLength d w h k) scratch (startByte d w dstStride k) (placeStep d dstStride) mid new = rw (R .line-is, f) at S in
-        lines-step (pixel src stride) d w h (kernel .border) (kernel .«blur_length») (kernel .q) (kernel .iterations) g (estimateAt (lineLength d w h k) scratch) dstStride k
+        let S′ : Scattered z g (lineLength d w h k) scratch (startByte d w dstStride k) (placeStep d dstStride) mid new
+        = rw (R .line-is, f) at S in
+        lines-step (pixel src stride) d w h (kernel .border) (kernel .«blur_length») (kernel .q) (kernel .iterations) g
+        (estimateAt (lineLength d w h k) scratch) dstStride k
         (l .width-pos) (l .stride-least) below (R .estimates) W S′
 
     pub lines-done : {new : List A} → k ≡ lineCount d w h → LinesTo z g src w h stride dstStride d kernel k old new
         → Painted z (λ c r. g (kernelEstimate src w h stride d kernel c r)) w h dstStride old new
     lines-done e W =
-        written-same (rw e at W) (λ j _. sym (lines-whole d w h dstStride (l .width-pos) (l .stride-least) j)) (λ j _ _. refl)
+        written-same (rw e at W) (λ j _. sym (lines-whole d w h dstStride (l .width-pos) (l .stride-least) j))
+        (λ j _ _. refl)
+
+-- ---- one turn: line k of the lines that a loop counts
+
+module _ {len w h stride dstLen dstStride : ℕ} {kernel : LineKernel} {scratchLen : ℕ} (d : RasterDirection4)
+    (asked : LinesAsked len w h stride dstLen dstStride kernel scratchLen) {count k : ℕ} (is : count ≡ lineCount d w h)
+    (below : k < count) where
+  pub turn-below : k < lineCount d w h
+  turn-below = rw is at below
+
+  -- what its restoration asks, of a scratch that has kept its length
+  pub turn-asked : {lent : ℕ} → lent ≡ scratchLen → SourceAsked len w h stride kernel lent × (k < lineCount d w h)
+  turn-asked e =
+      let s = asked .source in
+      (record { walked = s .walked; taken = s .taken; room = rw e (s .room) }, turn-below)
+
+  module _ (line : ScanLine) (e : line ≡ scanLineAt d w h k) where
+    -- its first place in the destination
+    pub turn-first : byteOf dstStride (line .col) (line .row) < dstLen
+    turn-first = line-start (asked .destination .laid) d k turn-below line e _ refl
+
+    -- what its scatter asks
+    pub turn-scatter : (s : ℕ) → s ≡ placeStep d dstStride → {dstLen′ lent : ℕ} → dstLen′ ≡ dstLen → lent ≡ scratchLen
+        → ScatterAsked dstLen′ (byteOf dstStride (line .col) (line .row)) s (line .len) lent
+    turn-scatter s f el er =
+        rw (el, er) (scatter-asked (asked .destination .laid) d k turn-below line e s f scratchLen
+        (asked .source .room))

@@ -1,85 +1,168 @@
 -- When a call along lines is given which number, and what it is to be accepted.
-use Prim.Native.Nat.{ℕ, _+_, _*_, _%_, _≤_, _<_, max}
+use Prim.Native.Nat.{ℕ, _*_, _%_, _≤_, _<_}
 use native.Mathlib.Nat.{pos-of-ne-zero, zero-lt-suc}
 use native.Mathlib.Omega.{arith}
-use mathlib.Core.Bool.{Bool, true, false, not, _||_, or-true}
+use mathlib.Core.Bool.{Bool, true, false, not, cond, _||_, or-true}
 use mathlib.Core.Logic.{_⊎_, inl, inr, ⊎-elim}
-use mathlib.Core.Path.{_≡_}
+use mathlib.Core.Path.{_≡_, ap, _∙_}
 use lib.Dec.{eqb, ltb}
+use lib.Ieee.{Float}
 use lib.Ieee.Scale.{finite}
 use borrow.Author.Tests.{eq-eqb, ne-eqb, lt-ltb, le-ltb, eqb-false, ltb-false, not-false}
 use Rattle.numbers.proofs.Nat.{even-or-odd}
 use Rattle.numbers.proofs.Test.{or-false-intro, or-false-left, or-false-right}
-use Rattle.image.specs.Refusal.{layoutRefusal, pairRefusal}
+use Rattle.floats.specs.Factor.{within}
+use Rattle.image.specs.Refusal.{layoutRefusal, pairRefusal, firstRefusal}
 use Rattle.image.proofs.Chain.{cond-zero, first-zero, first-own}
 use Rattle.image.proofs.Refusal.{laid, accepted}
 use Rattle.image.proofs.Pair.{laid-pair, accepted-pair}
-use Rattle.deblur.specs.declared.LineSettings.{LineSettings}
-use Rattle.deblur.specs.Refusal.{factorTaken, settingsRefusal, scratchShort, inOrder, filterRefusal, estimateRefusal, Settled, FilterAccepted, EstimateAccepted}
+use Rattle.deblur.specs.declared.DirectionalUnsharpConfig.{DirectionalUnsharpConfig}
+use Rattle.deblur.specs.declared.VanCittertConfig.{VanCittertConfig}
+use Rattle.deblur.specs.Refusal.{maxIterations, maxRelaxation, maxGain, maxBlurLength, scratchNeeded}
+use Rattle.deblur.specs.Refusal.{blurLengthRefusal, angleRefusal, factorRefusal, iterationsRefusal}
+use Rattle.deblur.specs.Refusal.{iteratedRefusal}
+use Rattle.deblur.specs.Refusal.{lineRefusal, restorationRefusal, unsharpRefusal, scratchShort, lentRefusal}
+use Rattle.deblur.specs.Refusal.{inOrder, filterRefusal, estimateRefusal, LengthTaken, IterationsTaken}
+use Rattle.deblur.specs.Refusal.{FilterAccepted, EstimateAccepted}
 
--- ---- the settings: each number in its condition
+-- ---- 7, the blur length
 
-module _ (width height : ℕ) (s : LineSettings) where
-  abbrev L : ℕ
-  L = s .«blur_length»
+module _ (width height L : ℕ) where
+  abbrev long : Bool
+  long = ltb (maxBlurLength width height) L
 
-  pub settings-7 : (L < 3) ⊎ ((L % 2 ≡ 0) ⊎ ((2 * max width height + 1 < L) ⊎ (finite (s .«theta_radians») ≡ false))) → settingsRefusal width height s ≡ 7
-  unfolding settingsRefusal
-  settings-7 (inl h) = simp (lt-ltb L 3 h)
-  settings-7 (inr (inl e)) = simp (eq-eqb (L % 2) 0 e, or-true)
-  settings-7 (inr (inr (inl h))) = simp (lt-ltb (2 * max width height + 1) L h, or-true)
-  settings-7 (inr (inr (inr e))) = simp (e, or-true)
+  pub blur-length-7 : (L < 3) ⊎ ((L % 2 ≡ 0) ⊎ (maxBlurLength width height < L)) → blurLengthRefusal width height L ≡ 7
+  unfolding blurLengthRefusal
+  blur-length-7 (inl h) = simp (lt-ltb L 3 h)
+  blur-length-7 (inr (inl e)) = simp (eq-eqb (L % 2) 0 e, or-true)
+  blur-length-7 (inr (inr h)) = simp (lt-ltb (maxBlurLength width height) L h, or-true)
 
-  module _ (least : 3 ≤ L) (odd : L % 2 ≡ 1) (most : L ≤ 2 * max width height + 1) (angle : finite (s .«theta_radians») ≡ true) where
-    blurs : (ltb L 3 || eqb (L % 2) 0 || ltb (2 * max width height + 1) L || not (finite (s .«theta_radians»))) ≡ false
-    blurs =
-        or-false-intro (or-false-intro (or-false-intro (le-ltb L 3 least) (ne-eqb (L % 2) 0 (omega arith))) (le-ltb (2 * max width height + 1) L most)) (rw angle)
+  pub blur-length-0 : LengthTaken width height L → blurLengthRefusal width height L ≡ 0
+  unfolding blurLengthRefusal
+  blur-length-0 t =
+      let odd = t .odd in
+      simp
+      (or-false-intro (or-false-intro (le-ltb L 3 (t .least)) (ne-eqb (L % 2) 0 (λ z. omega arith)))
+      (le-ltb (maxBlurLength width height) L (t .most)))
 
-    pub settings-8 : (s .iterations ≡ 0) ⊎ (factorTaken (s .filter) ≡ false) → settingsRefusal width height s ≡ 8
-    unfolding settingsRefusal
-    settings-8 (inl e) = simp (blurs, eq-eqb (s .iterations) 0 e)
-    settings-8 (inr e) = simp (blurs, e, or-true)
-
-    module _ (some : 1 ≤ s .iterations) (taken : factorTaken (s .filter) ≡ true) where
-      counts : (eqb (s .iterations) 0 || not (factorTaken (s .filter))) ≡ false
-      counts = or-false-intro (ne-eqb (s .iterations) 0 (omega arith)) (rw taken)
-
-      pub settings-9 : 22 < s .iterations → settingsRefusal width height s ≡ 9
-      unfolding settingsRefusal
-      settings-9 h = simp (blurs, counts, lt-ltb 22 (s .iterations) h)
-
-      pub settings-0 : s .iterations ≤ 22 → settingsRefusal width height s ≡ 0
-      unfolding settingsRefusal
-      settings-0 h = simp (blurs, counts, le-ltb 22 (s .iterations) h)
-
-module _ {width height : ℕ} {s : LineSettings} where
-  -- accepted settings are settled, and the other way round
-  pub settled : settingsRefusal width height s ≡ 0 → Settled width height s
-  unfolding settingsRefusal
-  settled e =
-      let L = s .«blur_length» in
+  pub length-taken : blurLengthRefusal width height L ≡ 0 → LengthTaken width height L
+  unfolding blurLengthRefusal
+  length-taken e =
       let short = ltb L 3 in
       let even = eqb (L % 2) 0 in
-      let long = ltb (2 * max width height + 1) L in
-      let a = cond-zero _ 7 _ (zero-lt-suc 6) e in
-      let b = cond-zero _ 8 _ (zero-lt-suc 7) (a .1) in
-      let d = cond-zero _ 9 _ (zero-lt-suc 8) (b .1) in
-      let abc = or-false-left (short || even || long) (not (finite (s .«theta_radians»))) (a .0) in
-      let ab = or-false-left (short || even) long abc in
-      let not-even : L % 2 ≡ 0 → ⊥ = eqb-false (L % 2) 0 (or-false-right short even ab) in
+      let a = cond-zero _ 7 _ (zero-lt-suc 6) e .0 in
+      let b = or-false-left (short || even) long a in
       record {
-        length-least = ltb-false L 3 (or-false-left short even ab);
-        length-odd = ⊎-elim (λ even. absurd (not-even even)) (λ odd. odd) (even-or-odd L);
-        length-most = ltb-false (2 * max width height + 1) L (or-false-right (short || even) long abc);
-        angle-finite = not-false _ (or-false-right (short || even || long) (not (finite (s .«theta_radians»))) (a .0));
-        iterations-least = pos-of-ne-zero (eqb-false (s .iterations) 0 (or-false-left (eqb (s .iterations) 0) (not (factorTaken (s .filter))) (b .0)));
-        iterations-most = ltb-false 22 (s .iterations) (d .0);
-        factor-taken = not-false _ (or-false-right (eqb (s .iterations) 0) (not (factorTaken (s .filter))) (b .0));
+        least = ltb-false L 3 (or-false-left short even b);
+        odd = ⊎-elim (λ z. absurd (eqb-false (L % 2) 0 (or-false-right short even b) z)) (λ odd. odd) (even-or-odd L);
+        most = ltb-false (maxBlurLength width height) L (or-false-right (short || even) long a);
       }
 
-  pub accepted-settings : Settled width height s → settingsRefusal width height s ≡ 0
-  accepted-settings t =
-      settings-0 width height s (t .length-least) (t .length-odd) (t .length-most) (t .angle-finite) (t .iterations-least) (t .factor-taken) (t .iterations-most)
+-- ---- 7, the angle; 8, a factor: by one test
+
+-- the number n, where a test fails
+module _ (n : ℕ) (some : 0 < n) (t : Bool) where
+  pub unless-fails : t ≡ false → cond (not t) n 0 ≡ n
+  unless-fails e = rw e
+
+  pub unless-holds : t ≡ true → cond (not t) n 0 ≡ 0
+  unless-holds e = rw e
+
+  pub unless-zero : cond (not t) n 0 ≡ 0 → t ≡ true
+  unless-zero e = not-false t (cond-zero (not t) n 0 some e .0)
+
+module _ (angle : Float) where
+  pub angle-7 : finite angle ≡ false → angleRefusal angle ≡ 7
+  unfolding angleRefusal
+  angle-7 = unless-fails 7 (zero-lt-suc 6) (finite angle)
+
+  pub angle-0 : finite angle ≡ true → angleRefusal angle ≡ 0
+  unfolding angleRefusal
+  angle-0 = unless-holds 7 (zero-lt-suc 6) (finite angle)
+
+module _ (limit : ℕ) (factor : Float) where
+  pub factor-8 : within limit factor ≡ false → factorRefusal limit factor ≡ 8
+  unfolding factorRefusal
+  factor-8 = unless-fails 8 (zero-lt-suc 7) (within limit factor)
+
+  pub factor-0 : within limit factor ≡ true → factorRefusal limit factor ≡ 0
+  unfolding factorRefusal
+  factor-0 = unless-holds 8 (zero-lt-suc 7) (within limit factor)
+
+  pub factor-taken : factorRefusal limit factor ≡ 0 → within limit factor ≡ true
+  unfolding factorRefusal
+  factor-taken = unless-zero 8 (zero-lt-suc 7) (within limit factor)
+
+-- ---- 8 and 9, the iterations
+
+module _ (iterations : ℕ) where
+  pub iterations-8 : iterations ≡ 0 → iterationsRefusal iterations ≡ 8
+  unfolding iterationsRefusal
+  iterations-8 e = simp (eq-eqb iterations 0 e)
+
+  pub iterations-9 : maxIterations < iterations → iterationsRefusal iterations ≡ 9
+  unfolding iterationsRefusal
+  iterations-9 h = simp (ne-eqb iterations 0 (λ z. omega arith), lt-ltb maxIterations iterations h)
+
+  pub iterations-0 : IterationsTaken iterations → iterationsRefusal iterations ≡ 0
+  unfolding iterationsRefusal
+  iterations-0 t =
+      let least = t .least in
+      simp (ne-eqb iterations 0 (λ z. omega arith), le-ltb maxIterations iterations (t .most))
+
+  pub iterations-taken : iterationsRefusal iterations ≡ 0 → IterationsTaken iterations
+  unfolding iterationsRefusal
+  iterations-taken e =
+      let a = cond-zero _ 8 _ (zero-lt-suc 7) e in
+      let b = cond-zero _ 9 _ (zero-lt-suc 8) (a .1) in
+      record {
+        least = pos-of-ne-zero (eqb-false iterations 0 (a .0));
+        most = ltb-false maxIterations iterations (b .0);
+      }
+
+-- ---- the settings
+
+-- 0 where both are
+pub first-0 : {a b : ℕ} → a ≡ 0 → b ≡ 0 → firstRefusal a b ≡ 0
+first-0 e f = rw (e, f)
+
+module _ (relaxation : Float) (iterations : ℕ) where
+  pub iterated-0 : within maxRelaxation relaxation ≡ true → IterationsTaken iterations
+      → iteratedRefusal relaxation iterations ≡ 0
+  iterated-0 f t = first-0 (factor-0 maxRelaxation relaxation f) (iterations-0 iterations t)
+
+  pub iterated-taken : iteratedRefusal relaxation iterations ≡ 0
+      → (within maxRelaxation relaxation ≡ true) × IterationsTaken iterations
+  iterated-taken e =
+      let a = first-zero (factorRefusal maxRelaxation relaxation) (iterationsRefusal iterations) e in
+      (factor-taken maxRelaxation relaxation (a .0), iterations-taken iterations (a .1))
+
+module _ (width height : ℕ) where
+  pub line-0 : {L : ℕ} (angle : Float) → LengthTaken width height L → finite angle ≡ true
+      → lineRefusal width height L angle ≡ 0
+  line-0 {L} angle t f = first-0 (blur-length-0 width height L t) (angle-0 angle f)
+
+  -- settings whose first refusal is the lines'
+  line-taken : (L : ℕ) (angle : Float) (next : ℕ) → firstRefusal (lineRefusal width height L angle) next ≡ 0
+      → LengthTaken width height L × (next ≡ 0)
+  line-taken L angle next e =
+      let a = first-zero (lineRefusal width height L angle) next e in
+      let b = first-zero (blurLengthRefusal width height L) (angleRefusal angle) (a .0) in
+      (length-taken width height L (b .0), a .1)
+
+  pub restoration-taken : (config : VanCittertConfig) → restorationRefusal width height config ≡ 0
+      → LengthTaken width height (config .«blur_length») × (within maxRelaxation (config .relaxation) ≡ true)
+      × IterationsTaken (config .iterations)
+  restoration-taken config e =
+      let a = line-taken (config .«blur_length») (config .«theta_radians») _ e in
+      let b = iterated-taken (config .relaxation) (config .iterations) (a .1) in
+      (a .0, b .0, b .1)
+
+  pub unsharp-taken : (config : DirectionalUnsharpConfig) → unsharpRefusal width height config ≡ 0
+      → LengthTaken width height (config .«blur_length») × (within maxGain (config .gain) ≡ true)
+  unsharp-taken config e =
+      let a = line-taken (config .«blur_length») (config .«theta_radians») _ e in
+      (a .0, factor-taken maxGain (config .gain) (a .1))
 
 -- ---- the order of the numbers
 
@@ -89,6 +172,10 @@ module _ (pictures settings : ℕ) (short : Bool) where
 
   pub order-settings : pictures ≡ 0 → (settings ≡ 0 → ⊥) → inOrder pictures settings short ≡ settings
   order-settings e h = rw e (first-own settings _ h)
+
+  -- once the pictures are accepted: the settings, then what is lent
+  pub order-lent : pictures ≡ 0 → inOrder pictures settings short ≡ firstRefusal settings (lentRefusal short)
+  order-lent e = rw e
 
   pub order-10 : pictures ≡ 0 → settings ≡ 0 → short ≡ true → inOrder pictures settings short ≡ 10
   order-10 e d t = rw (e, d, t)
@@ -104,96 +191,73 @@ module _ (pictures settings : ℕ) (short : Bool) where
 
 -- ---- restoration and line unsharp
 
-module _ (len width height stride dstLen dstWidth dstHeight dstStride : ℕ) (s : LineSettings) (scratchLen : ℕ) where
+module _ (len width height stride dstLen dstWidth dstHeight dstStride settings scratchLen : ℕ) where
   abbrev pair : ℕ
   pair = pairRefusal len width height stride dstLen dstWidth dstHeight dstStride
 
   abbrev filtered : ℕ
-  filtered = filterRefusal len width height stride dstLen dstWidth dstHeight dstStride s scratchLen
+  filtered = filterRefusal len width height stride dstLen dstWidth dstHeight dstStride settings scratchLen
 
   pub filter-pictures : (pair ≡ 0 → ⊥) → filtered ≡ pair
   unfolding filterRefusal
-  filter-pictures = order-pictures pair (settingsRefusal width height s) (scratchShort width height scratchLen)
+  filter-pictures = order-pictures pair settings (scratchShort width height scratchLen)
 
-  pub filter-settings : pair ≡ 0 → (settingsRefusal width height s ≡ 0 → ⊥) → filtered ≡ settingsRefusal width height s
+  pub filter-lent : pair ≡ 0 → filtered ≡ firstRefusal settings (lentRefusal (scratchShort width height scratchLen))
   unfolding filterRefusal
-  filter-settings = order-settings pair (settingsRefusal width height s) (scratchShort width height scratchLen)
+  filter-lent = order-lent pair settings (scratchShort width height scratchLen)
 
-  pub filter-10 : pair ≡ 0 → settingsRefusal width height s ≡ 0 → scratchLen < 3 * (width * height) → filtered ≡ 10
-  unfolding filterRefusal
-  filter-10 e d h =
-      order-10 pair (settingsRefusal width height s) (scratchShort width height scratchLen) e d (lt-ltb scratchLen (3 * (width * height)) h)
-
-  pub filter-0 : pair ≡ 0 → settingsRefusal width height s ≡ 0 → 3 * (width * height) ≤ scratchLen → filtered ≡ 0
-  unfolding filterRefusal
-  filter-0 e d h =
-      order-0 pair (settingsRefusal width height s) (scratchShort width height scratchLen) e d (le-ltb scratchLen (3 * (width * height)) h)
-
-module _ {len width height stride dstLen dstWidth dstHeight dstStride : ℕ} {s : LineSettings} {scratchLen : ℕ} where
-  -- no number: accepted, and the other way round
-  pub filter-accepted : filterRefusal len width height stride dstLen dstWidth dstHeight dstStride s scratchLen ≡ 0
-      → FilterAccepted len width height stride dstLen dstWidth dstHeight dstStride s scratchLen
+  pub filter-accepted : filtered ≡ 0 → FilterAccepted len width height stride dstLen dstWidth dstHeight dstStride
+      settings scratchLen
   unfolding filterRefusal
   filter-accepted e =
-      let a =
-      order-zero (pairRefusal len width height stride dstLen dstWidth dstHeight dstStride) (settingsRefusal width height s) (scratchShort width height scratchLen) e
-      in
+      let a = order-zero pair settings (scratchShort width height scratchLen) e in
       record {
         pictures = laid-pair (a .0);
-        settings = settled (a .1);
-        scratch-least = ltb-false scratchLen (3 * (width * height)) (a .2);
+        settings-taken = a .1;
+        scratch-least = ltb-false scratchLen (scratchNeeded width height) (a .2);
       }
-
-  pub accepted-filter : FilterAccepted len width height stride dstLen dstWidth dstHeight dstStride s scratchLen
-      → filterRefusal len width height stride dstLen dstWidth dstHeight dstStride s scratchLen ≡ 0
-  accepted-filter a =
-      filter-0 len width height stride dstLen dstWidth dstHeight dstStride s scratchLen (accepted-pair (a .pictures)) (accepted-settings (a .settings)) (a .scratch-least)
 
 -- ---- the estimate call
 
-module _ (len width height stride dstLen : ℕ) (s : LineSettings) (scratchLen : ℕ) where
+module _ (len width height stride dstLen settings scratchLen : ℕ) where
   abbrev layout : ℕ
   layout = layoutRefusal len width height stride
 
-  abbrev lent : Bool
-  lent = ltb dstLen (width * height) || scratchShort width height scratchLen
+  abbrev dst-short : Bool
+  dst-short = ltb dstLen (width * height)
+
+  abbrev short : Bool
+  short = dst-short || scratchShort width height scratchLen
 
   abbrev estimated : ℕ
-  estimated = estimateRefusal len width height stride dstLen s scratchLen
+  estimated = estimateRefusal len width height stride dstLen settings scratchLen
 
   pub estimate-pictures : (layout ≡ 0 → ⊥) → estimated ≡ layout
   unfolding estimateRefusal
-  estimate-pictures = order-pictures layout (settingsRefusal width height s) lent
+  estimate-pictures = order-pictures layout settings short
 
-  pub estimate-settings : layout ≡ 0 → (settingsRefusal width height s ≡ 0 → ⊥) → estimated ≡ settingsRefusal width height s
+  pub estimate-lent : layout ≡ 0 → estimated ≡ firstRefusal settings (lentRefusal short)
   unfolding estimateRefusal
-  estimate-settings = order-settings layout (settingsRefusal width height s) lent
+  estimate-lent = order-lent layout settings short
 
-  pub estimate-10 : layout ≡ 0 → settingsRefusal width height s ≡ 0 → (dstLen < width * height) ⊎ (scratchLen < 3 * (width * height)) → estimated ≡ 10
-  unfolding estimateRefusal
-  estimate-10 e d (inl h) = order-10 layout (settingsRefusal width height s) lent e d (rw (lt-ltb dstLen (width * height) h))
-  estimate-10 e d (inr h) =
-      order-10 layout (settingsRefusal width height s) lent e d (rw (lt-ltb scratchLen (3 * (width * height)) h) (or-true (ltb dstLen (width * height))))
-
-  pub estimate-0 : layout ≡ 0 → settingsRefusal width height s ≡ 0 → width * height ≤ dstLen → 3 * (width * height) ≤ scratchLen → estimated ≡ 0
-  unfolding estimateRefusal
-  estimate-0 e d h k =
-      order-0 layout (settingsRefusal width height s) lent e d
-      (or-false-intro (le-ltb dstLen (width * height) h) (le-ltb scratchLen (3 * (width * height)) k))
-
-module _ {len width height stride dstLen : ℕ} {s : LineSettings} {scratchLen : ℕ} where
   -- no number: accepted, and the other way round
-  pub estimate-accepted : estimateRefusal len width height stride dstLen s scratchLen ≡ 0 → EstimateAccepted len width height stride dstLen s scratchLen
+  pub estimate-accepted : estimated ≡ 0 → EstimateAccepted len width height stride dstLen settings scratchLen
   unfolding estimateRefusal
   estimate-accepted e =
-      let a = order-zero (layoutRefusal len width height stride) (settingsRefusal width height s) (ltb dstLen (width * height) || scratchShort width height scratchLen) e in
+      let a = order-zero layout settings short e in
       record {
         picture = laid (a .0);
-        settings = settled (a .1);
-        dst-least = ltb-false dstLen (width * height) (or-false-left (ltb dstLen (width * height)) (scratchShort width height scratchLen) (a .2));
-        scratch-least = ltb-false scratchLen (3 * (width * height)) (or-false-right (ltb dstLen (width * height)) (scratchShort width height scratchLen) (a .2));
+        settings-taken = a .1;
+        dst-least = ltb-false dstLen (width * height)
+            (or-false-left dst-short (scratchShort width height scratchLen) (a .2));
+        scratch-least =
+            ltb-false scratchLen (scratchNeeded width height)
+            (or-false-right dst-short (scratchShort width height scratchLen) (a .2));
       }
 
-  pub accepted-estimate : EstimateAccepted len width height stride dstLen s scratchLen → estimateRefusal len width height stride dstLen s scratchLen ≡ 0
+  pub accepted-estimate : EstimateAccepted len width height stride dstLen settings scratchLen → estimated ≡ 0
+  unfolding estimateRefusal
   accepted-estimate a =
-      estimate-0 len width height stride dstLen s scratchLen (accepted (a .picture)) (accepted-settings (a .settings)) (a .dst-least) (a .scratch-least)
+      order-0 layout settings short (accepted (a .picture)) (a .settings-taken)
+      (or-false-intro (le-ltb dstLen (width * height) (a .dst-least))
+      (le-ltb scratchLen (scratchNeeded width height) (a .scratch-least)))

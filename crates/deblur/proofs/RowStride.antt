@@ -1,5 +1,6 @@
--- A picture's stride may be taken as its width where it has one row (`rowStride`): then every step is a machine number (`walked`), the pixels are the same
--- (`pixel-same`), so are the estimates (`estimate-same`), and a destination that is painted with the one is painted with the other (`painted-stride`).
+-- A picture's stride may be taken as its width where it has one row (`rowStride`): then every step is a machine number
+-- (`walked`), the pixels are the same (`pixel-same`), so are the estimates (`estimate-same`), and a destination that is
+-- painted with the one is painted with the other (`painted-stride`).
 use mathlib.Core.Path.{_≡_, sym, ap, _∙_}
 use mathlib.Core.Bool.{true}
 use mathlib.Core.List.{List}
@@ -24,7 +25,7 @@ use Rattle.raster.specs.declared.border.LineBorderMode.{LineBorderMode}
 use Rattle.raster.specs.declared.direction.RasterDirection4.{RasterDirection4}
 use Rattle.raster.proofs.BorderMap.{border-lawful}
 use Rattle.raster.proofs.Place.{one-line}
-use Rattle.line.proofs.LineSame.{after-same}
+use Rattle.line.proofs.LineWindow.{after-same}
 use Rattle.deblur.specs.Lines.{rowStride, Walked}
 use Rattle.deblur.specs.Picture.{samples, estimate}
 use Rattle.deblur.proofs.PictureLaws.{estimate-is, estimate-on}
@@ -48,7 +49,14 @@ walked {len} {w} {h} {s} l few =
     let f : w * (h - 1) ≡ 0 = rw e (mul-zero w) in
     rw (row-stride-one w h s (eqb-true h 1 t))
     (record {
-      laid = record { width-pos = l .width-pos; width-most = mw; height-pos = ph; height-most = l .height-most; stride-least = le-refl w; len-least = omega arith };
+      laid = record {
+        width-pos = l .width-pos;
+        width-most = mw;
+        height-pos = ph;
+        height-most = l .height-most;
+        stride-least = le-refl w;
+        len-least = omega arith;
+      };
       stride-most = omega arith;
     }))
     (λ t.
@@ -61,7 +69,9 @@ pixel-same src w h s c r b =
     by-test (eqb h 1)
     (λ t.
     let o : r ≡ 0 = let e = eqb-true h 1 t in omega arith in
-    ap (λ (j : ℕ). getD src (j + c) 0) {x = r * rowStride w h s} {y = r * s} (ap (λ (k : ℕ). k * rowStride w h s) o ∙ zero-mul (rowStride w h s) ∙ sym (zero-mul s) ∙ ap (λ (k : ℕ). k * s) (sym o)))
+    ap (λ (j : ℕ). getD src (j + c) 0) {x = r * rowStride w h s} {y = r * s}
+    (ap (λ (k : ℕ). k * rowStride w h s) o ∙ zero-mul (rowStride w h s) ∙ sym (zero-mul s)
+    ∙ ap (λ (k : ℕ). k * s) (sym o)))
     (λ t. ap (λ (k : ℕ). pixel src k c r) (row-stride-more w h s (eqb-false h 1 t)))
 
 -- pictures that are equal at their pixels have equal estimates there
@@ -87,7 +97,8 @@ module _ (w s j : ℕ) (some : 0 < w) (wide : w ≤ s) where
   row-pixels : (pixels w 1 s j ≡ true) ↔ (j < w)
   row-pixels = (
     λ t. let b = pixels-iff w 1 s j .0 t in let d = digits (b .1) in omega arith,
-    λ t. let u = div-mod-unique {j = j} {s = s} {x = j} 0 (omega (arith, zero-mul s)) (omega arith) in pixels-iff w 1 s j .1 (omega arith),
+    λ t. let u = div-mod-unique {j = j} {s = s} {x = j} 0 (omega (arith, zero-mul s)) (omega arith) in pixels-iff w 1 s
+        j .1 (omega arith),
   )
     where
       digits : j / s < 1 → j % s ≡ j
@@ -111,7 +122,9 @@ painted-stride {z = z} f w h s {old} {new} some wide P =
         let Q : Painted z f w 1 w old new = rw (row-stride-one w h s e, e) at P in
         rw e
         (written-same Q
-        (λ j _. bool-ext (pixels w 1 s j) (pixels w 1 w j) (λ t. row-pixels w w j some (le-refl w) .1 (row-pixels w s j some wide .0 t)) (λ t. row-pixels w s j some wide .1 (row-pixels w w j some (le-refl w) .0 t)))
+        (λ j _. bool-ext (pixels w 1 s j) (pixels w 1 w j)
+        (λ t. row-pixels w w j some (le-refl w) .1 (row-pixels w s j some wide .0 t))
+        (λ t. row-pixels w s j some wide .1 (row-pixels w w j some (le-refl w) .0 t)))
         (λ j _ t.
         let b = row-pixels w w j some (le-refl w) .0 t in
         let u = row-digits w w j some (le-refl w) b in
@@ -127,6 +140,13 @@ walked-tight {w = w} {h} l room =
     let f : w * h ≡ w * (h - 1) + w * 1 = ap (λ (n : ℕ). w * n) e ∙ mul-add w (h - 1) 1 in
     let o : w * 1 ≡ w = mul-one w in
     record {
-      laid = record { width-pos = l .width-pos; width-most = mw; height-pos = ph; height-most = l .height-most; stride-least = le-refl w; len-least = omega arith };
+      laid = record {
+        width-pos = l .width-pos;
+        width-most = mw;
+        height-pos = ph;
+        height-most = l .height-most;
+        stride-least = le-refl w;
+        len-least = omega arith;
+      };
       stride-most = omega arith;
     }

@@ -1,49 +1,66 @@
--- What each public call answers and writes. `Filtered` and `Estimated` are the contracts' facts: over the source, the destination's list before
--- and after, the settings, the scratch's list before and after, and the answer.
-use Prim.Native.Nat.{ℕ, zero, suc}
+-- What each public call answers and writes. `Filtered` and `EstimateWritten` are the contracts' facts: over the source,
+-- the destination and what it is after, what the settings come to, the scratch before and after, and the answer.
+use Prim.Native.Nat.{ℕ}
 use mathlib.Core.List.{List}
-use mathlib.Core.Path.{_≡_}
 use lib.IntN.{ℤ, pos}
-use lib.Ieee.{Float}
 use lib.ListN.{length}
 use Rattle.numbers.specs.Scalar.{clampByte}
 use Rattle.numbers.specs.Written.{Painted}
-use Rattle.image.specs.Picture.{pixel}
-use Rattle.raster.specs.Direction.{fromAngle}
-use Rattle.deblur.specs.declared.LineSettings.{LineSettings}
+use Rattle.image.specs.Call.{Gray8, Decision, accepts, refuses, decided, Outcome}
+use Rattle.raster.specs.declared.direction.RasterDirection4.{RasterDirection4}
+use Rattle.line.specs.declared.kernel.LineKernel.{LineKernel}
 use Rattle.deblur.specs.declared.RestorationAnswer.{RestorationAnswer}
 use Rattle.deblur.specs.declared.RestorationAnswer.the-variants.{Done, Refused}
-use Rattle.deblur.specs.Settings.{filterQ16}
-use Rattle.deblur.specs.Picture.{estimate}
+use Rattle.deblur.specs.Lines.{kernelEstimate}
 use Rattle.deblur.specs.Refusal.{filterRefusal, estimateRefusal}
+use Rattle.deblur.specs.Settings.{LineFilter}
 
--- the last estimate at the pixel (c, r) of a source that lies in a list of bytes
-unfoldable pub estimateOf : List ℕ → ℕ → ℕ → ℕ → LineSettings → ℕ → ℕ → ℤ
-estimateOf src width height stride s c r =
-    estimate (pixel src stride) (fromAngle (s .«theta_radians»)) width height (s .border) (s .«blur_length») (filterQ16 (s .filter)) (s .iterations) c r
+-- the call finds the direction that its lines take
+abbrev pub restorationAnswer : Decision RasterDirection4 → RestorationAnswer
+restorationAnswer (accepts d) = Done (record { «raster_direction» = d })
+restorationAnswer (refuses number) = Refused number
 
--- an accepted call's answer, and a refused one's
-abbrev pub answerOf : ℕ → Float → RestorationAnswer
-answerOf zero angle = Done (record { «raster_direction» = fromAngle angle })
-answerOf (suc number) angle = Refused (suc number)
+-- the last estimate at the pixel (c, r)
+abbrev pub lastEstimate : Gray8 → LineKernel → RasterDirection4 → ℕ → ℕ → ℤ
+lastEstimate src kernel d c r = kernelEstimate (src .bytes) (src .width) (src .height) (src .stride) d kernel c r
 
--- "A refusal returns its number and changes neither destination nor scratch." Scratch after an accepted call is free.
-pub record Outcome {A : Type 0} (refusal : ℕ) (angle : Float) (written : Type 0) (old new : List A) (scratch scratch′ : List ℤ) (answer : RestorationAnswer) : Type 0 where
-  pub answered : answer ≡ answerOf refusal angle
-  pub accepted : refusal ≡ 0 → written
-  pub dst-kept : (refusal ≡ 0 → ⊥) → new ≡ old
-  pub scratch-kept : (refusal ≡ 0 → ⊥) → scratch′ ≡ scratch
+-- ---- restoration and line unsharp
 
--- Restoration and line unsharp: each pixel of the destination is the last estimate there, cut to 0..255.
-abbrev pub Filtered : List ℕ → ℕ → ℕ → ℕ → List ℕ → List ℕ → ℕ → ℕ → ℕ → LineSettings → List ℤ → List ℤ → RestorationAnswer → Type 0
-Filtered src width height stride old new dstWidth dstHeight dstStride s scratch scratch′ answer =
-    Outcome (filterRefusal (length src) width height stride (length old) dstWidth dstHeight dstStride s (length scratch)) (s .«theta_radians»)
-    (Painted 0 (λ c r. clampByte (estimateOf src width height stride s c r)) width height dstStride old new)
-    old new scratch scratch′ answer
+abbrev pub filterNumber : Gray8 → Gray8 → LineFilter → ℕ → ℕ
+filterNumber src dst f scratchLen =
+    filterRefusal (length (src .bytes)) (src .width) (src .height) (src .stride) (length (dst .bytes)) (dst .width)
+    (dst .height)
+    (dst .stride) (f .refusal (src .width) (src .height)) scratchLen
 
--- The estimate call: the last estimate uncut, in the first width × height places, row by row.
-abbrev pub Estimated : List ℕ → ℕ → ℕ → ℕ → List ℤ → List ℤ → LineSettings → List ℤ → List ℤ → RestorationAnswer → Type 0
-Estimated src width height stride old new s scratch scratch′ answer =
-    Outcome (estimateRefusal (length src) width height stride (length old) s (length scratch)) (s .«theta_radians»)
-    (Painted (pos 0) (estimateOf src width height stride s) width height width old new)
+abbrev pub filterDecision : Gray8 → Gray8 → LineFilter → ℕ → Decision RasterDirection4
+filterDecision src dst f scratchLen = decided (filterNumber src dst f scratchLen) (f .direction)
+
+-- each pixel of the destination is the last estimate there, cut to 0..255
+abbrev pub filterWrites : Gray8 → ℕ → LineKernel → RasterDirection4 → List ℕ → List ℕ → Type 0
+filterWrites src dstStride kernel d old new =
+    Painted 0 (λ c r. clampByte (lastEstimate src kernel d c r)) (src .width) (src .height) dstStride old new
+
+abbrev pub Filtered : Gray8 → Gray8 → List ℕ → LineFilter → List ℤ → List ℤ → RestorationAnswer → Type 0
+Filtered src dst new f scratch scratch′ answer =
+    Outcome (filterDecision src dst f (length scratch)) restorationAnswer (filterWrites src (dst .stride) (f .kernel))
+    (dst .bytes) new scratch scratch′ answer
+
+-- ---- the estimate call
+
+abbrev pub estimateNumber : Gray8 → ℕ → LineFilter → ℕ → ℕ
+estimateNumber src dstLen f scratchLen =
+    estimateRefusal (length (src .bytes)) (src .width) (src .height) (src .stride) dstLen
+    (f .refusal (src .width) (src .height)) scratchLen
+
+abbrev pub estimateDecision : Gray8 → ℕ → LineFilter → ℕ → Decision RasterDirection4
+estimateDecision src dstLen f scratchLen = decided (estimateNumber src dstLen f scratchLen) (f .direction)
+
+-- the last estimate uncut, in the first width × height places, row by row
+abbrev pub estimateWrites : Gray8 → LineKernel → RasterDirection4 → List ℤ → List ℤ → Type 0
+estimateWrites src kernel d old new =
+    Painted (pos 0) (lastEstimate src kernel d) (src .width) (src .height) (src .width) old new
+
+abbrev pub EstimateWritten : Gray8 → List ℤ → List ℤ → LineFilter → List ℤ → List ℤ → RestorationAnswer → Type 0
+EstimateWritten src old new f scratch scratch′ answer =
+    Outcome (estimateDecision src (length old) f (length scratch)) restorationAnswer (estimateWrites src (f .kernel))
     old new scratch scratch′ answer

@@ -1,7 +1,7 @@
 -- What the contracts of `deblur` cite.
-pub mod Settings
 pub mod Picture
 pub mod Refusal
-pub mod Calls
-pub mod Scatter
+pub mod Settings
 pub mod Lines
+pub mod Scatter
+pub mod Calls

@@ -1,5 +1,5 @@
--- The estimate at a pixel: that of the line through it, at its place there (document 01, "Views and lines", "Restoration and line unsharp").
--- A picture is a function px of column and row, w by h.
+-- The estimate at a pixel: that of the line through it, at its place there (document 01, "Views and lines",
+-- "Restoration and line unsharp"). A picture is a function px of column and row, w by h.
 use Prim.Native.Nat.{ℕ}
 use lib.IntN.{ℤ, pos}
 use Rattle.raster.specs.declared.border.LineBorderMode.{LineBorderMode}

@@ -1,65 +1,123 @@
--- Document 01, "Refusals, first match wins", for the line filters: 1 to 6 of the pictures, 7 to 9 of the settings, 10 of what is lent. 0 is no refusal.
+-- Document 01, "Refusals, first match wins", for the line filters: a test for each number, which is 0 where nothing is
+-- refused, and the tests in the document's order.
 use Prim.Native.Nat.{ℕ, _+_, _*_, _%_, _≤_, max}
-use mathlib.Core.Bool.{Bool, true, not, cond, _||_}
+use mathlib.Core.Bool.{Bool, not, cond, _||_}
 use mathlib.Core.Path.{_≡_}
 use lib.Dec.{eqb, ltb}
+use lib.Ieee.{Float}
 use lib.Ieee.Scale.{finite}
 use Rattle.floats.specs.Factor.{within}
 use Rattle.image.specs.Refusal.{layoutRefusal, pairRefusal, firstRefusal, Laid, LaidPair}
-use Rattle.deblur.specs.declared.LineFilter.{LineFilter}
-use Rattle.deblur.specs.declared.LineFilter.the-variants.{Restoration, Unsharp}
-use Rattle.deblur.specs.declared.LineSettings.{LineSettings}
+use Rattle.deblur.specs.declared.VanCittertConfig.{VanCittertConfig}
+use Rattle.deblur.specs.declared.DirectionalUnsharpConfig.{DirectionalUnsharpConfig}
 
--- a relaxation is finite and in 0..1, a gain finite and in 0..8
-abbrev pub factorTaken : LineFilter → Bool
-factorTaken (Restoration relaxation) = within 1 relaxation
-factorTaken (Unsharp gain) = within 8 gain
+-- ---- the limits
 
--- 7 blur length is below 3, even, or above 2 × max(width, height) + 1, or the angle is not finite; 8 iterations are 0, or the factor is
--- not taken; 9 iterations exceed 22. A line unsharp has one iteration, for which the tests on iterations say nothing.
-unfoldable pub settingsRefusal : ℕ → ℕ → LineSettings → ℕ
-settingsRefusal width height s =
-    cond (ltb (s .«blur_length») 3 || eqb (s .«blur_length» % 2) 0 || ltb (2 * max width height + 1) (s .«blur_length») || not (finite (s .«theta_radians»))) 7
-    (cond (eqb (s .iterations) 0 || not (factorTaken (s .filter))) 8
-    (cond (ltb 22 (s .iterations)) 9 0))
+abbrev pub maxIterations : ℕ
+maxIterations = 22
 
--- 10 scratch is shorter than 3 × width × height
+abbrev pub maxRelaxation : ℕ
+maxRelaxation = 1
+
+abbrev pub maxGain : ℕ
+maxGain = 8
+
+-- the longest blur of a picture
+abbrev pub maxBlurLength : ℕ → ℕ → ℕ
+maxBlurLength width height = 2 * max width height + 1
+
+-- how many i32 a line filter asks as scratch
+abbrev pub scratchNeeded : ℕ → ℕ → ℕ
+scratchNeeded width height = 3 * (width * height)
+
+-- ---- the settings
+
+-- 7 blur length is below 3, even, or above 2 × max(width, height) + 1
+unfoldable pub blurLengthRefusal : ℕ → ℕ → ℕ → ℕ
+blurLengthRefusal width height L = cond (ltb L 3 || eqb (L % 2) 0 || ltb (maxBlurLength width height) L) 7 0
+
+-- 7 .. or the angle is not finite
+unfoldable pub angleRefusal : Float → ℕ
+angleRefusal angle = cond (not (finite angle)) 7 0
+
+-- 8 relaxation, or gain, is not finite or outside 0..limit
+unfoldable pub factorRefusal : ℕ → Float → ℕ
+factorRefusal limit factor = cond (not (within limit factor)) 8 0
+
+-- 8 iterations are 0; 9 iterations exceed 22
+unfoldable pub iterationsRefusal : ℕ → ℕ
+iterationsRefusal iterations = cond (eqb iterations 0) 8 (cond (ltb maxIterations iterations) 9 0)
+
+-- 8 and 9 of an iterated restoration
+abbrev pub iteratedRefusal : Float → ℕ → ℕ
+iteratedRefusal relaxation iterations =
+    firstRefusal (factorRefusal maxRelaxation relaxation) (iterationsRefusal iterations)
+
+-- 7 of a filter along lines
+abbrev pub lineRefusal : ℕ → ℕ → ℕ → Float → ℕ
+lineRefusal width height L angle = firstRefusal (blurLengthRefusal width height L) (angleRefusal angle)
+
+-- 7 to 9 of the restoration
+abbrev pub restorationRefusal : ℕ → ℕ → VanCittertConfig → ℕ
+restorationRefusal width height config =
+    firstRefusal (lineRefusal width height (config .«blur_length») (config .«theta_radians»))
+    (iteratedRefusal (config .relaxation) (config .iterations))
+
+-- 7 and 8 of the line unsharp
+abbrev pub unsharpRefusal : ℕ → ℕ → DirectionalUnsharpConfig → ℕ
+unsharpRefusal width height config =
+    firstRefusal (lineRefusal width height (config .«blur_length») (config .«theta_radians»))
+    (factorRefusal maxGain (config .gain))
+
+-- ---- the calls
+
+-- scratch is too short
 abbrev pub scratchShort : ℕ → ℕ → ℕ → Bool
-scratchShort width height scratchLen = ltb scratchLen (3 * (width * height))
+scratchShort width height scratchLen = ltb scratchLen (scratchNeeded width height)
+
+-- 10 what is lent is too short
+abbrev pub lentRefusal : Bool → ℕ
+lentRefusal short = cond short 10 0
 
 -- in document 01's order
 abbrev pub inOrder : ℕ → ℕ → Bool → ℕ
-inOrder pictures settings short = firstRefusal pictures (firstRefusal settings (cond short 10 0))
+inOrder pictures settings short = firstRefusal pictures (firstRefusal settings (lentRefusal short))
 
--- restoration and line unsharp, whose destination is a picture
-unfoldable pub filterRefusal : ℕ → ℕ → ℕ → ℕ → ℕ → ℕ → ℕ → ℕ → LineSettings → ℕ → ℕ
-filterRefusal len width height stride dstLen dstWidth dstHeight dstStride s scratchLen =
-    inOrder (pairRefusal len width height stride dstLen dstWidth dstHeight dstStride) (settingsRefusal width height s) (scratchShort width height scratchLen)
+-- restoration and line unsharp, whose destination is a picture, by the refusal of their settings
+unfoldable pub filterRefusal : ℕ → ℕ → ℕ → ℕ → ℕ → ℕ → ℕ → ℕ → ℕ → ℕ → ℕ
+filterRefusal len width height stride dstLen dstWidth dstHeight dstStride settings scratchLen =
+    inOrder (pairRefusal len width height stride dstLen dstWidth dstHeight dstStride) settings
+    (scratchShort width height scratchLen)
 
 -- the estimate call, whose destination has no layout: 10 too where it is shorter than width × height
-unfoldable pub estimateRefusal : ℕ → ℕ → ℕ → ℕ → ℕ → LineSettings → ℕ → ℕ
-estimateRefusal len width height stride dstLen s scratchLen =
-    inOrder (layoutRefusal len width height stride) (settingsRefusal width height s) (ltb dstLen (width * height) || scratchShort width height scratchLen)
+unfoldable pub estimateRefusal : ℕ → ℕ → ℕ → ℕ → ℕ → ℕ → ℕ → ℕ
+estimateRefusal len width height stride dstLen settings scratchLen =
+    inOrder (layoutRefusal len width height stride) settings
+    (ltb dstLen (width * height) || scratchShort width height scratchLen)
 
--- Accepted settings: `settingsRefusal` is 0 exactly there.
-pub record Settled (width height : ℕ) (s : LineSettings) : Type 0 where
-  pub length-least : 3 ≤ s .«blur_length»
-  pub length-odd : s .«blur_length» % 2 ≡ 1
-  pub length-most : s .«blur_length» ≤ 2 * max width height + 1
-  pub angle-finite : finite (s .«theta_radians») ≡ true
-  pub iterations-least : 1 ≤ s .iterations
-  pub iterations-most : s .iterations ≤ 22
-  pub factor-taken : factorTaken (s .filter) ≡ true
+-- ---- what is accepted
+
+-- `blurLengthRefusal` is 0 exactly there.
+pub record LengthTaken (width height L : ℕ) : Type 0 where
+  pub least : 3 ≤ L
+  pub odd : L % 2 ≡ 1
+  pub most : L ≤ maxBlurLength width height
+
+-- `iterationsRefusal` is 0 exactly there.
+pub record IterationsTaken (iterations : ℕ) : Type 0 where
+  pub least : 1 ≤ iterations
+  pub most : iterations ≤ maxIterations
 
 -- An accepted restoration or line unsharp: `filterRefusal` is 0 exactly there.
-pub record FilterAccepted (len width height stride dstLen dstWidth dstHeight dstStride : ℕ) (s : LineSettings) (scratchLen : ℕ) : Type 0 where
-  pub pictures : LaidPair len width height stride dstLen dstWidth dstHeight dstStride
-  pub settings : Settled width height s
-  pub scratch-least : 3 * (width * height) ≤ scratchLen
+pub record FilterAccepted (len width height stride dstLen dstWidth dstHeight dstStride settings scratchLen : ℕ) : Type 0
+  where
+    pub pictures : LaidPair len width height stride dstLen dstWidth dstHeight dstStride
+    pub settings-taken : settings ≡ 0
+    pub scratch-least : scratchNeeded width height ≤ scratchLen
 
 -- An accepted estimate call: `estimateRefusal` is 0 exactly there.
-pub record EstimateAccepted (len width height stride dstLen : ℕ) (s : LineSettings) (scratchLen : ℕ) : Type 0 where
+pub record EstimateAccepted (len width height stride dstLen settings scratchLen : ℕ) : Type 0 where
   pub picture : Laid len width height stride
-  pub settings : Settled width height s
+  pub settings-taken : settings ≡ 0
   pub dst-least : width * height ≤ dstLen
-  pub scratch-least : 3 * (width * height) ≤ scratchLen
+  pub scratch-least : scratchNeeded width height ≤ scratchLen

@@ -13,4 +13,5 @@ pub record ScatterAsked (dstLen start step n scratchLen : ℕ) : Type 0 where
 
 -- g of the estimate at each place, and nothing else changed
 abbrev pub Scattered : {A : Type 0} → A → (ℤ → A) → ℕ → List ℤ → ℕ → ℕ → List A → List A → Type 0
-Scattered z g n scratch start step old new = Written z (comb start step n) (λ j. g (lineAt n scratch ((j - start) / step))) old new
+Scattered z g n scratch start step old new = Written z (comb start step n)
+    (λ j. g (lineAt n scratch ((j - start) / step))) old new

@@ -1,80 +1,80 @@
--- Document 01, "Kept, and written anew": configurations that hold their floats, each with its defaults on the type; the choice of filter carries
--- a relaxation or a gain. The defaults are the Rust's.
-use Prim.Native.Nat.{ℕ, _≤_}
-use lib.Ieee.{binary64, ofBits}
-use Rattle.floats.specs.Factor.{roundedQ16, quantized}
-use Rattle.floats.specs.declared.Quantized.{Quantized}
+-- Document 01, "Kept, and written anew": configurations that hold their floats, each with its defaults on the type (the
+-- Rust's), and what they come to along lines.
+use Prim.Native.Nat.{ℕ}
+use lib.Ieee.{Float, binary64, ofBits}
+use Rattle.floats.specs.Factor.{roundedQ16}
+use Rattle.raster.specs.Direction.{fromAngle}
+use Rattle.raster.specs.declared.border.LineBorderMode.{LineBorderMode}
 use Rattle.raster.specs.declared.border.LineBorderMode.the-variants.{Replicate}
+use Rattle.raster.specs.declared.direction.RasterDirection4.{RasterDirection4}
 use Rattle.line.specs.declared.kernel.LineKernel.{LineKernel}
 use Rattle.deblur.specs.declared.VanCittertConfig.{VanCittertConfig}
 use Rattle.deblur.specs.declared.DirectionalUnsharpConfig.{DirectionalUnsharpConfig}
-use Rattle.deblur.specs.declared.LineFilter.{LineFilter}
-use Rattle.deblur.specs.declared.LineFilter.the-variants.{Restoration, Unsharp}
-use Rattle.deblur.specs.declared.LineSettings.{LineSettings}
+use Rattle.deblur.specs.Refusal.{restorationRefusal, unsharpRefusal}
 
--- angle 0.0, length 3, 3 iterations, relaxation 1.0, Replicate
+-- ---- the defaults
+
+abbrev pub defaultBlurLength : ℕ
+defaultBlurLength = 3
+
+abbrev pub defaultIterations : ℕ
+defaultIterations = 3
+
+-- 1.0
+abbrev pub defaultRelaxation : Float
+defaultRelaxation = ofBits binary64 0x3ff0_0000_0000_0000
+
+-- 1.5
+abbrev pub defaultGain : Float
+defaultGain = ofBits binary64 0x3ff8_0000_0000_0000
+
+-- angle 0.0, Replicate
 unfoldable pub vanCittertDefault : VanCittertConfig
 vanCittertDefault =
     record {
       «theta_radians» = ofBits binary64 0;
-      «blur_length» = 3;
-      iterations = 3;
-      relaxation = ofBits binary64 0x3ff0_0000_0000_0000;
+      «blur_length» = defaultBlurLength;
+      iterations = defaultIterations;
+      relaxation = defaultRelaxation;
       border = Replicate;
     }
 
--- angle 0.0, length 3, gain 1.5, Replicate
+-- angle 0.0, Replicate
 unfoldable pub unsharpDefault : DirectionalUnsharpConfig
 unsharpDefault =
     record {
       «theta_radians» = ofBits binary64 0;
-      «blur_length» = 3;
-      gain = ofBits binary64 0x3ff8_0000_0000_0000;
+      «blur_length» = defaultBlurLength;
+      gain = defaultGain;
       border = Replicate;
     }
 
--- q of the filter's factor
-abbrev pub filterQ16 : LineFilter → ℕ
-filterQ16 (Restoration relaxation) = roundedQ16 relaxation
-filterQ16 (Unsharp gain) = roundedQ16 gain
+-- ---- what settings come to
 
--- q of the filter's factor, and that one which is not taken is refused
-abbrev pub filterQuantized : LineFilter → Quantized
-filterQuantized (Restoration relaxation) = quantized 1 relaxation
-filterQuantized (Unsharp gain) = quantized 8 gain
+-- on each line, where q is the factor's
+abbrev pub lineKernel : ℕ → Float → ℕ → LineBorderMode → LineKernel
+lineKernel L factor iterations border =
+    record { «blur_length» = L; q = roundedQ16 factor; iterations = iterations; border = border }
 
-abbrev pub restorationOf : VanCittertConfig → LineSettings
+-- the refusal on a picture of these sides, 0 where there is none; the lines' direction; and what is done on each
+pub record LineFilter : Type 0 where
+  pub refusal : ℕ → ℕ → ℕ
+  pub direction : RasterDirection4
+  pub kernel : LineKernel
+
+abbrev pub restorationOf : VanCittertConfig → LineFilter
 restorationOf config =
     record {
-      «theta_radians» = config .«theta_radians»;
-      «blur_length» = config .«blur_length»;
-      iterations = config .iterations;
-      filter = Restoration (config .relaxation);
-      border = config .border;
+      refusal = λ width height. restorationRefusal width height config;
+      direction = fromAngle (config .«theta_radians»);
+      kernel = lineKernel (config .«blur_length») (config .relaxation) (config .iterations) (config .border);
     }
 
 -- one step
-abbrev pub unsharpOf : DirectionalUnsharpConfig → LineSettings
+abbrev pub unsharpOf : DirectionalUnsharpConfig → LineFilter
 unsharpOf config =
     record {
-      «theta_radians» = config .«theta_radians»;
-      «blur_length» = config .«blur_length»;
-      iterations = 1;
-      filter = Unsharp (config .gain);
-      border = config .border;
+      refusal = λ width height. unsharpRefusal width height config;
+      direction = fromAngle (config .«theta_radians»);
+      kernel = lineKernel (config .«blur_length») (config .gain) 1 (config .border);
     }
-
--- what the settings come to on each line
-abbrev pub kernelOf : LineSettings → LineKernel
-kernelOf s =
-    record {
-      «blur_length» = s .«blur_length»;
-      q = filterQ16 (s .filter);
-      iterations = s .iterations;
-      border = s .border;
-    }
-
--- a line unsharp is one step
-abbrev pub OneStep : LineFilter → ℕ → Type 0
-OneStep (Restoration relaxation) iterations = Unit {0}
-OneStep (Unsharp gain) iterations = iterations ≤ 1

@@ -1,13 +1,19 @@
 // Restoration along lines, and line unsharp: the settings, the answers and the calls.
 ghost use mathlib.Core.Path.{_≡_};
-ghost use Rattle.deblur.specs.Calls.{Filtered, Estimated};
+ghost use Rattle.image.specs.Call.{gray8};
+ghost use Rattle.deblur.specs.Calls.{Filtered, EstimateWritten};
 ghost use Rattle.deblur.specs.Settings.{vanCittertDefault, unsharpDefault, restorationOf, unsharpOf};
-use crate::filter::estimate_into;
-use crate::filter::filter_into;
+use crate::kernel::estimates_along;
+use crate::kernel::line_kernel;
+use crate::kernel::restore_along;
+use crate::refusal::estimate_refusal;
+use crate::refusal::filter_refusal;
+use crate::refusal::restoration_refusal;
+use crate::refusal::unsharp_refusal;
 use raster::border::LineBorderMode;
 use raster::direction::RasterDirection4;
 
-mod filter;
+pub mod kernel;
 mod lines;
 pub mod refusal;
 mod scatter;
@@ -18,8 +24,9 @@ pub struct VanCittertConfig {
     pub theta_radians: f64,
     // The blur's odd length in pixels.
     pub blur_length: usize,
+    // Up to MAX_ITERATIONS.
     pub iterations: usize,
-    // In 0..1.
+    // In 0..MAX_RELAXATION.
     pub relaxation: f64,
     pub border: LineBorderMode,
 }
@@ -30,25 +37,8 @@ pub struct DirectionalUnsharpConfig {
     pub theta_radians: f64,
     // The blur's odd length in pixels.
     pub blur_length: usize,
-    // In 0..8.
+    // In 0..MAX_GAIN.
     pub gain: f64,
-    pub border: LineBorderMode,
-}
-
-// The choice of filter, with its factor.
-pub enum LineFilter {
-    // A relaxation.
-    Restoration(f64),
-    // A gain.
-    Unsharp(f64),
-}
-
-// What both filters' settings come to; the line unsharp is one iteration.
-pub struct LineSettings {
-    pub theta_radians: f64,
-    pub blur_length: usize,
-    pub iterations: usize,
-    pub filter: LineFilter,
     pub border: LineBorderMode,
 }
 
@@ -64,55 +54,43 @@ pub enum RestorationAnswer {
 }
 
 impl VanCittertConfig {
+    pub const MAX_ITERATIONS: usize = 22;
+
+    pub const MAX_RELAXATION: u8 = 1;
+
+    pub const DEFAULT_BLUR_LENGTH: usize = 3;
+
+    pub const DEFAULT_ITERATIONS: usize = 3;
+
+    pub const DEFAULT_RELAXATION: f64 = 1.0;
+
     pub fn default() -> Self
         ensures { λ r. ⌜ r ≡ vanCittertDefault ⌝ }
     {
         VanCittertConfig {
             theta_radians: 0.0,
-            blur_length: 3,
-            iterations: 3,
-            relaxation: 1.0,
+            blur_length: VanCittertConfig::DEFAULT_BLUR_LENGTH,
+            iterations: VanCittertConfig::DEFAULT_ITERATIONS,
+            relaxation: VanCittertConfig::DEFAULT_RELAXATION,
             border: LineBorderMode::Replicate,
         }
     }
 }
 
 impl DirectionalUnsharpConfig {
+    pub const MAX_GAIN: u8 = 8;
+
+    pub const DEFAULT_GAIN: f64 = 1.5;
+
     pub fn default() -> Self
         ensures { λ r. ⌜ r ≡ unsharpDefault ⌝ }
     {
         DirectionalUnsharpConfig {
             theta_radians: 0.0,
-            blur_length: 3,
-            gain: 1.5,
+            blur_length: VanCittertConfig::DEFAULT_BLUR_LENGTH,
+            gain: DirectionalUnsharpConfig::DEFAULT_GAIN,
             border: LineBorderMode::Replicate,
         }
-    }
-}
-
-fn restoration_of(config: VanCittertConfig) -> LineSettings
-    ensures { λ r. ⌜ r ≡ restorationOf config ⌝ }
-{
-    let border = config.border;
-    LineSettings {
-        theta_radians: config.theta_radians,
-        blur_length: config.blur_length,
-        iterations: config.iterations,
-        filter: LineFilter::Restoration(config.relaxation),
-        border,
-    }
-}
-
-fn unsharp_of(config: DirectionalUnsharpConfig) -> LineSettings
-    ensures { λ r. ⌜ r ≡ unsharpOf config ⌝ }
-{
-    let border = config.border;
-    LineSettings {
-        theta_radians: config.theta_radians,
-        blur_length: config.blur_length,
-        iterations: 1,
-        filter: LineFilter::Unsharp(config.gain),
-        border,
     }
 }
 
@@ -129,21 +107,47 @@ pub fn van_cittert_line_into(
     config: VanCittertConfig,
     scratch: &mut [i32],
 ) -> RestorationAnswer
-    ensures { λ r. ⌜ Filtered (now («data» .entry)) width height stride (now (dst .entry)) (now (dst .exit)) «dst_width» «dst_height» «dst_stride» (restorationOf config) (now (scratch .entry)) (now (scratch .exit)) r ⌝ }
+    ensures { λ r. ⌜ Filtered (gray8 (now («data» .entry)) width height stride)
+        (gray8 (now (dst .entry)) «dst_width» «dst_height» «dst_stride»)
+        (now (dst .exit)) (restorationOf config) (now (scratch .entry)) (now (scratch .exit)) r ⌝ }
 {
-    let settings = restoration_of(config);
-    filter_into(
+    let refusal = filter_refusal(
+        data.len(),
+        width,
+        height,
+        stride,
+        dst.len(),
+        dst_width,
+        dst_height,
+        dst_stride,
+        restoration_refusal(width, height, config),
+        scratch.len(),
+    );
+    if refusal != 0 {
+        return RestorationAnswer::Refused(refusal);
+    }
+    let direction = RasterDirection4::from_angle(config.theta_radians);
+    let border = config.border;
+    let kernel = line_kernel(
+        config.blur_length,
+        config.relaxation,
+        config.iterations,
+        border,
+    );
+    restore_along(
         data,
         width,
         height,
         stride,
         dst,
-        dst_width,
-        dst_height,
         dst_stride,
-        settings,
+        direction,
+        kernel,
         scratch,
-    )
+    );
+    RestorationAnswer::Done(RestorationMetadata {
+        raster_direction: direction,
+    })
 }
 
 // The source's restoration as it is, in the destination's first width * height places.
@@ -156,10 +160,34 @@ pub fn van_cittert_estimate_into(
     config: VanCittertConfig,
     scratch: &mut [i32],
 ) -> RestorationAnswer
-    ensures { λ r. ⌜ Estimated (now («data» .entry)) width height stride (now (dst .entry)) (now (dst .exit)) (restorationOf config) (now (scratch .entry)) (now (scratch .exit)) r ⌝ }
+    ensures { λ r. ⌜ EstimateWritten (gray8 (now («data» .entry)) width height stride) (now (dst .entry))
+        (now (dst .exit))
+        (restorationOf config) (now (scratch .entry)) (now (scratch .exit)) r ⌝ }
 {
-    let settings = restoration_of(config);
-    estimate_into(data, width, height, stride, dst, settings, scratch)
+    let refusal = estimate_refusal(
+        data.len(),
+        width,
+        height,
+        stride,
+        dst.len(),
+        restoration_refusal(width, height, config),
+        scratch.len(),
+    );
+    if refusal != 0 {
+        return RestorationAnswer::Refused(refusal);
+    }
+    let direction = RasterDirection4::from_angle(config.theta_radians);
+    let border = config.border;
+    let kernel = line_kernel(
+        config.blur_length,
+        config.relaxation,
+        config.iterations,
+        border,
+    );
+    estimates_along(data, width, height, stride, dst, direction, kernel, scratch);
+    RestorationAnswer::Done(RestorationMetadata {
+        raster_direction: direction,
+    })
 }
 
 // The source's line unsharp, cut to 0..255, in the destination's pixels.
@@ -175,19 +203,40 @@ pub fn directional_unsharp_line_into(
     config: DirectionalUnsharpConfig,
     scratch: &mut [i32],
 ) -> RestorationAnswer
-    ensures { λ r. ⌜ Filtered (now («data» .entry)) width height stride (now (dst .entry)) (now (dst .exit)) «dst_width» «dst_height» «dst_stride» (unsharpOf config) (now (scratch .entry)) (now (scratch .exit)) r ⌝ }
+    ensures { λ r. ⌜ Filtered (gray8 (now («data» .entry)) width height stride)
+        (gray8 (now (dst .entry)) «dst_width» «dst_height» «dst_stride»)
+        (now (dst .exit)) (unsharpOf config) (now (scratch .entry)) (now (scratch .exit)) r ⌝ }
 {
-    let settings = unsharp_of(config);
-    filter_into(
+    let refusal = filter_refusal(
+        data.len(),
+        width,
+        height,
+        stride,
+        dst.len(),
+        dst_width,
+        dst_height,
+        dst_stride,
+        unsharp_refusal(width, height, config),
+        scratch.len(),
+    );
+    if refusal != 0 {
+        return RestorationAnswer::Refused(refusal);
+    }
+    let direction = RasterDirection4::from_angle(config.theta_radians);
+    let border = config.border;
+    let kernel = line_kernel(config.blur_length, config.gain, 1, border);
+    restore_along(
         data,
         width,
         height,
         stride,
         dst,
-        dst_width,
-        dst_height,
         dst_stride,
-        settings,
+        direction,
+        kernel,
         scratch,
-    )
+    );
+    RestorationAnswer::Done(RestorationMetadata {
+        raster_direction: direction,
+    })
 }

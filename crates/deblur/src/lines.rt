@@ -1,4 +1,5 @@
-// All lines of a direction, one after the other: each is restored in the front of the scratch and written to its places.
+// All lines of a direction, one after the other: each is restored in the front of the scratch and written to its
+// places.
 ghost use lib.IntN.{pos};
 ghost use lib.ListN.{length};
 ghost use Prim.Native.Nat.{_<_};
@@ -27,8 +28,10 @@ fn restore_scan_line(
     kernel: LineKernel,
     scratch: &mut [i32],
 ) -> ScanLine
-    requires { ⌜ SourceAsked (length (now «data»)) width height stride kernel (length (now scratch)) × (k < lineCount direction width height) ⌝ }
-    ensures { λ r. ⌜ ScanLineRestored (now («data» .entry)) width height stride direction k kernel (now (scratch .exit)) r ⌝ }
+    requires { ⌜ SourceAsked (length (now «data»)) width height stride kernel (length (now scratch))
+        × (k < lineCount direction width height) ⌝ }
+    ensures { λ r. ⌜ ScanLineRestored (now («data» .entry)) width height stride direction k kernel (now (scratch .exit))
+        r ⌝ }
 {
     let line = line_at(direction, width, height, k);
     let start = line.row * stride + line.col;
@@ -49,8 +52,11 @@ pub(crate) fn restore_lines_into(
     kernel: LineKernel,
     scratch: &mut [i32],
 )
-    requires { ⌜ LinesAsked (length (now «data»)) width height stride (length (now dst)) «dst_stride» kernel (length (now scratch)) ⌝ }
-    ensures { λ _. ⌜ Painted 0 (λ c r. clampByte (kernelEstimate (now («data» .entry)) width height stride direction kernel c r)) width height «dst_stride» (now (dst .entry)) (now (dst .exit)) ⌝ }
+    requires { ⌜ LinesAsked (length (now «data»)) width height stride (length (now dst)) «dst_stride» kernel
+        (length (now scratch)) ⌝ }
+    ensures { λ _. ⌜ Painted 0 (λ c r. clampByte
+        (kernelEstimate (now («data» .entry)) width height stride direction kernel c r)) width height «dst_stride»
+        (now (dst .entry)) (now (dst .exit)) ⌝ }
 {
     let count = line_count(direction, width, height);
     let step = place_step(direction, dst_stride);
@@ -80,8 +86,10 @@ pub(crate) fn estimate_lines_into(
     kernel: LineKernel,
     scratch: &mut [i32],
 )
-    requires { ⌜ LinesAsked (length (now «data»)) width height stride (length (now dst)) «dst_stride» kernel (length (now scratch)) ⌝ }
-    ensures { λ _. ⌜ Painted (pos 0) (kernelEstimate (now («data» .entry)) width height stride direction kernel) width height «dst_stride» (now (dst .entry)) (now (dst .exit)) ⌝ }
+    requires { ⌜ LinesAsked (length (now «data»)) width height stride (length (now dst)) «dst_stride» kernel
+        (length (now scratch)) ⌝ }
+    ensures { λ _. ⌜ Painted (pos 0) (kernelEstimate (now («data» .entry)) width height stride direction kernel) width
+        height «dst_stride» (now (dst .entry)) (now (dst .exit)) ⌝ }
 {
     let count = line_count(direction, width, height);
     let step = place_step(direction, dst_stride);

@@ -1,64 +1,116 @@
-// The refusals of the line filters, in document 01's order; 0 where the call is accepted.
+// The refusals of the line filters: a test for each number, 0 where nothing is refused, and the tests in document 01's
+// order.
 ghost use mathlib.Core.Path.{_≡_};
-ghost use Prim.Native.Nat.{max};
-ghost use Rattle.deblur.specs.Settings.{filterQuantized};
-ghost use Rattle.deblur.specs.Refusal.{factorTaken, settingsRefusal, filterRefusal, estimateRefusal};
-use crate::LineFilter;
-use crate::LineSettings;
-use floats::Quantized;
+ghost use Rattle.image.specs.Refusal.{firstRefusal};
+ghost use Rattle.deblur.specs.Refusal.{blurLengthRefusal, angleRefusal, factorRefusal, iterationsRefusal};
+ghost use Rattle.deblur.specs.Refusal.{iteratedRefusal, lentRefusal};
+ghost use Rattle.deblur.specs.Refusal.{lineRefusal, restorationRefusal, unsharpRefusal, filterRefusal};
+ghost use Rattle.deblur.specs.Refusal.{estimateRefusal};
+use crate::DirectionalUnsharpConfig;
+use crate::VanCittertConfig;
+use crate::kernel::scratch_needed;
+use numbers::max_usize;
 
-fn longer(a: usize, b: usize) -> usize
-    ensures { λ r. ⌜ r ≡ max a b ⌝ }
+// The first refusal of two.
+pub fn first_refusal(first: u8, next: u8) -> u8
+    ensures { λ r. ⌜ r ≡ firstRefusal first next ⌝ }
 {
-    if a < b { b } else { a }
+    if first != 0 { first } else { next }
 }
 
-// q of the filter's factor, or that 8 refuses it.
-pub(crate) fn quantize_filter(filter: LineFilter) -> Quantized
-    ensures { λ r. ⌜ r ≡ filterQuantized filter ⌝ }
+// 10, where what is lent is too short.
+pub fn lent_refusal(short: bool) -> u8
+    ensures { λ r. ⌜ r ≡ lentRefusal short ⌝ }
 {
-    match filter {
-        LineFilter::Restoration(relaxation) => floats::quantize_relaxation(relaxation),
-        LineFilter::Unsharp(gain) => floats::quantize_gain(gain),
-    }
+    if short { 10 } else { 0 }
 }
 
-// Whether 8 takes the factor.
-fn is_factor_taken(filter: LineFilter) -> bool
-    ensures { λ r. ⌜ r ≡ factorTaken filter ⌝ }
+// 7, for the blur length.
+fn blur_length_refusal(width: usize, height: usize, length: usize) -> u8
+    ensures { λ r. ⌜ r ≡ blurLengthRefusal width height length ⌝ }
 {
-    match quantize_filter(filter) {
-        Quantized::Q16(_) => true,
-        Quantized::Refused => false,
-    }
-}
-
-// Refusals 7 to 9.
-pub fn settings_refusal(width: usize, height: usize, settings: LineSettings) -> u8
-    ensures { λ r. ⌜ r ≡ settingsRefusal width height settings ⌝ }
-{
-    let length = settings.blur_length;
     if length < 3 || length % 2 == 0 {
         return 7;
     }
     // Half of the length, since twice a side could wrap.
-    if length / 2 > longer(width, height) {
+    if length / 2 > max_usize(width, height) {
         return 7;
     }
-    if !floats::is_finite(settings.theta_radians) {
-        return 7;
+    0
+}
+
+// 7, for the angle.
+fn angle_refusal(angle: f64) -> u8
+    ensures { λ r. ⌜ r ≡ angleRefusal angle ⌝ }
+{
+    if floats::is_finite(angle) { 0 } else { 7 }
+}
+
+// 8, for a relaxation or a gain.
+fn factor_refusal(factor: f64, limit: u8) -> u8
+    ensures { λ r. ⌜ r ≡ factorRefusal limit factor ⌝ }
+{
+    if floats::is_within(factor, limit) {
+        0
+    } else {
+        8
     }
-    let filter = settings.filter;
-    if settings.iterations == 0 || !is_factor_taken(filter) {
+}
+
+// 8 or 9, for the iterations.
+fn iterations_refusal(iterations: usize) -> u8
+    ensures { λ r. ⌜ r ≡ iterationsRefusal iterations ⌝ }
+{
+    if iterations == 0 {
         return 8;
     }
-    if settings.iterations > 22 {
+    if iterations > VanCittertConfig::MAX_ITERATIONS {
         return 9;
     }
     0
 }
 
-// Refusals of a filter whose destination is a picture.
+// 8 and 9 of an iterated restoration.
+pub fn iterated_refusal(relaxation: f64, iterations: usize) -> u8
+    ensures { λ r. ⌜ r ≡ iteratedRefusal relaxation iterations ⌝ }
+{
+    first_refusal(
+        factor_refusal(relaxation, VanCittertConfig::MAX_RELAXATION),
+        iterations_refusal(iterations),
+    )
+}
+
+// 7 of a filter along lines.
+fn line_refusal(width: usize, height: usize, length: usize, angle: f64) -> u8
+    ensures { λ r. ⌜ r ≡ lineRefusal width height length angle ⌝ }
+{
+    first_refusal(
+        blur_length_refusal(width, height, length),
+        angle_refusal(angle),
+    )
+}
+
+// 7 to 9 of the restoration.
+pub fn restoration_refusal(width: usize, height: usize, config: VanCittertConfig) -> u8
+    ensures { λ r. ⌜ r ≡ restorationRefusal width height config ⌝ }
+{
+    first_refusal(
+        line_refusal(width, height, config.blur_length, config.theta_radians),
+        iterated_refusal(config.relaxation, config.iterations),
+    )
+}
+
+// 7 and 8 of the line unsharp.
+pub fn unsharp_refusal(width: usize, height: usize, config: DirectionalUnsharpConfig) -> u8
+    ensures { λ r. ⌜ r ≡ unsharpRefusal width height config ⌝ }
+{
+    first_refusal(
+        line_refusal(width, height, config.blur_length, config.theta_radians),
+        factor_refusal(config.gain, DirectionalUnsharpConfig::MAX_GAIN),
+    )
+}
+
+// Refusals of a filter whose destination is a picture, by that of its settings.
 pub fn filter_refusal(
     len: usize,
     width: usize,
@@ -68,10 +120,11 @@ pub fn filter_refusal(
     dst_width: usize,
     dst_height: usize,
     dst_stride: usize,
-    settings: LineSettings,
+    settings: u8,
     scratch_len: usize,
 ) -> u8
-    ensures { λ r. ⌜ r ≡ filterRefusal len width height stride «dst_len» «dst_width» «dst_height» «dst_stride» settings «scratch_len» ⌝ }
+    ensures { λ r. ⌜ r ≡ filterRefusal len width height stride «dst_len» «dst_width» «dst_height» «dst_stride» settings
+        «scratch_len» ⌝ }
 {
     let pictures = image::pair_refusal(
         len,
@@ -86,24 +139,18 @@ pub fn filter_refusal(
     if pictures != 0 {
         return pictures;
     }
-    let own = settings_refusal(width, height, settings);
-    if own != 0 {
-        return own;
-    }
-    if scratch_len < 3 * (width * height) {
-        return 10;
-    }
-    0
+    let short = scratch_len < scratch_needed(width, height);
+    first_refusal(settings, lent_refusal(short))
 }
 
-// Refusals of the estimate call.
+// Refusals of the estimate call, by that of its settings.
 pub fn estimate_refusal(
     len: usize,
     width: usize,
     height: usize,
     stride: usize,
     dst_len: usize,
-    settings: LineSettings,
+    settings: u8,
     scratch_len: usize,
 ) -> u8
     ensures { λ r. ⌜ r ≡ estimateRefusal len width height stride «dst_len» settings «scratch_len» ⌝ }
@@ -112,12 +159,7 @@ pub fn estimate_refusal(
     if layout != 0 {
         return layout;
     }
-    let own = settings_refusal(width, height, settings);
-    if own != 0 {
-        return own;
-    }
-    if dst_len < width * height || scratch_len < 3 * (width * height) {
-        return 10;
-    }
-    0
+    let dst_short = dst_len < width * height;
+    let scratch_short = scratch_len < scratch_needed(width, height);
+    first_refusal(settings, lent_refusal(dst_short | scratch_short))
 }

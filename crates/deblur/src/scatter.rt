@@ -19,7 +19,8 @@ pub(crate) fn scatter_u8(scratch: &[i32], n: usize, dst: &mut [u8], start: usize
 // As it is.
 pub(crate) fn scatter_i32(scratch: &[i32], n: usize, dst: &mut [i32], start: usize, step: usize)
     requires { ⌜ ScatterAsked (length (now dst)) start step n (length (now scratch)) ⌝ }
-    ensures { λ _. ⌜ Scattered (pos 0) (λ v. v) n (now (scratch .entry)) start step (now (dst .entry)) (now (dst .exit)) ⌝ }
+    ensures { λ _. ⌜ Scattered (pos 0) (λ v. v) n (now (scratch .entry)) start step (now (dst .entry)) (now (dst .exit))
+        ⌝ }
 {
     let mut i = 0;
     while i < n {

@@ -1,7 +1,10 @@
--- Laws on q from a factor: what `within` says, by cases and by value, q by value, that q is nearest, q's bound, and that the factor of a q gives q back.
+-- Laws on q from a factor: what `within` says, by cases and by value, q by value, that q is nearest, q's bound, and
+-- that the factor of a q gives q back.
 use mathlib.Core.Path.{_≡_, refl, sym, ap, _∙_, subst}
 use Prim.Native.Nat.{ℕ, zero, suc, _+_, _*_, _/_, _^_, _≤_, _<_}
-use native.Mathlib.Nat.{le-trans, le-of-lt, mul-le-mul-right, mul-mul-mul-comm, suc-mul, zero-lt-suc, zero-mul, mul-one, mul-assoc, mul-comm, mul-left-comm, mul-pos, add-mul, add-div-right, div-mul-le-self, lt-div-mul-add, div-div-eq-div-mul, div-lt-iff-lt-mul, le-of-suc-le-suc, lt-of-lt-of-le}
+use native.Mathlib.Nat.{le-trans, le-of-lt, mul-le-mul-right, mul-mul-mul-comm, suc-mul, zero-lt-suc, zero-mul, mul-one}
+use native.Mathlib.Nat.{mul-assoc, mul-comm, mul-left-comm, mul-pos, add-mul, add-div-right, div-mul-le-self}
+use native.Mathlib.Nat.{lt-div-mul-add, div-div-eq-div-mul, div-lt-iff-lt-mul, le-of-suc-le-suc, lt-of-lt-of-le}
 use native.Mathlib.Omega.{arith}
 use mathlib.Core.Bool.{Bool, true, false, not, _&&_, _||_, cond, false≢true, true≢false}
 use lib.IntN.{ℤ, pos}
@@ -17,7 +20,8 @@ use lib.Ieee.Positive.{num, den, den-pos}
 use borrow.Author.Tests.{ltb-true, lt-ltb, le-ltb, le-leb}
 use Rattle.floats.specs.declared.Quantized.the-variants.{Q16, Refused}
 use Rattle.floats.specs.Factor.{within, roundedQ16, quantized, factorOf}
-use Rattle.floats.proofs.Order.{never, same-test, or-l, or-r, or-split, lt-value, le-value, inf-lt, inf-le, nan-le}
+use Rattle.floats.proofs.Order.{never, same-test, or-l, or-r, or-split, lt-value, le-value, inf-lt, inf-le}
+use Rattle.floats.proofs.Order.{nan-le}
 use Rattle.floats.proofs.Values.{Cut, cut-value, ofInt-value, mul-pow-value}
 
 -- ---- a factor that is taken: it is finite, not below 0, and at most the limit
@@ -46,7 +50,8 @@ unfolding within
 within-more limit more h nan t = absurd t
 within-more limit more h (inf s) t = absurd t
 within-more limit more h (fin s m e) t =
-    or-split (eqb m 0) (not s && leb (m * up e) (limit * down e)) (or-l (eqb m 0) (not s && leb (m * up e) (more * down e)))
+    or-split (eqb m 0) (not s && leb (m * up e) (limit * down e))
+    (or-l (eqb m 0) (not s && leb (m * up e) (more * down e)))
     (λ l.
     or-r (eqb m 0) (not s && leb (m * up e) (more * down e))
     (and-i (not s) (leb (m * up e) (more * down e)) (and-l (not s) (leb (m * up e) (limit * down e)) l)
@@ -57,10 +62,12 @@ within-more limit more h (fin s m e) t =
 one-pos : 0 < 1
 one-pos = zero-lt-suc 0
 
-pub within-finite : (limit : ℕ) (s : Bool) (m : ℕ) (e : ℤ) → s ≡ false → m * up e ≤ limit * down e → T (within limit (fin s m e))
+pub within-finite : (limit : ℕ) (s : Bool) (m : ℕ) (e : ℤ) → s ≡ false → m * up e ≤ limit * down e
+    → T (within limit (fin s m e))
 unfolding within
 within-finite limit true m e z h = absurd (true≢false z)
-within-finite limit false m e z h = or-r (eqb m 0) (leb (m * up e) (limit * down e)) (le→leb (m * up e) (limit * down e) h)
+within-finite limit false m e z h =
+    or-r (eqb m 0) (leb (m * up e) (limit * down e)) (le→leb (m * up e) (limit * down e) h)
 
 pub within-value : (limit : ℕ) (x : Float) (a c : ℕ) → 0 < c → HasValue x false a c → within limit x ≡ leb a (limit * c)
 within-value limit nan a c C h = absurd h
@@ -81,12 +88,14 @@ within-value limit (fin s m e) a c C h =
 spread : (n d c : ℕ) → (131072 * n + d) * (2 * c) ≡ 262144 * (n * c) + 2 * (d * c)
 spread n d c = add-mul (131072 * n) d (2 * c) ∙ omega (arith, mul-mul-mul-comm 131072 n 2 c, mul-left-comm d 2 c)
 
-pub rounded-value : (x : Float) (s : Bool) (a c : ℕ) → 0 < c → HasValue x s a c → roundedQ16 x ≡ (131072 * a + c) / (2 * c)
+pub rounded-value : (x : Float) (s : Bool) (a c : ℕ) → 0 < c → HasValue x s a c
+    → roundedQ16 x ≡ (131072 * a + c) / (2 * c)
 unfolding roundedQ16
 rounded-value nan s a c C h = absurd h
 rounded-value (inf u) s a c C h = absurd h
 rounded-value (fin u m e) s a c C h =
-    div-same (131072 * (m * up e) + down e) (2 * down e) (131072 * a + c) (2 * c) (mul-pos (zero-lt-suc 1) (down-pos e)) (mul-pos (zero-lt-suc 1) C)
+    div-same (131072 * (m * up e) + down e) (2 * down e) (131072 * a + c) (2 * c) (mul-pos (zero-lt-suc 1) (down-pos e))
+    (mul-pos (zero-lt-suc 1) C)
     (spread (m * up e) (down e) c ∙ omega (arith, h .1, mul-comm (down e) c) ∙ sym (spread a c (down e)))
 
 -- ---- q is nearest to the factor × 65,536: q - 1 / 2 ≤ num / den × 65,536 < q + 1 / 2, both sides times 2 × den
@@ -102,7 +111,8 @@ rounded-high x = lt-div-mul-add (mul-pos (zero-lt-suc 1) (den-pos x))
 -- ---- q's bound
 
 doubled : (k d : ℕ) → k * 65536 * (2 * d) ≡ 131072 * (k * d)
-doubled k d = mul-mul-mul-comm k 65536 2 d ∙ omega (arith, mul-assoc k 2 (65536 * d), mul-left-comm k 65536 d, mul-left-comm k 2 (65536 * d))
+doubled k d = mul-mul-mul-comm k 65536 2 d
+    ∙ omega (arith, mul-assoc k 2 (65536 * d), mul-left-comm k 65536 d, mul-left-comm k 2 (65536 * d))
 
 pub rounded-le : (limit : ℕ) (x : Float) → T (within limit x) → roundedQ16 x ≤ limit * 65536
 unfolding roundedQ16
@@ -119,20 +129,13 @@ pub quantized-refused : (limit : ℕ) (x : Float) → within limit x ≡ false �
 unfolding quantized
 quantized-refused limit x h = ap (λ (b : Bool). cond b (Q16 (roundedQ16 x)) Refused) h
 
-pub quantized-le : (limit : ℕ) (x : Float) (q : ℕ) → quantized limit x ≡ Q16 q → q ≤ limit * 65536
-unfolding quantized
-quantized-le limit x q = go (within limit x) (rounded-le limit x)
-  where
-    go : (b : Bool) → (T b → roundedQ16 x ≤ limit * 65536) → cond b (Q16 (roundedQ16 x)) Refused ≡ Q16 q → q ≤ limit * 65536
-    go true h e = let same : roundedQ16 x ≡ q = cc in omega (arith, h tt)
-    go false h e = let z : _≡_ {A = ℕ} 0 1 = cc in omega arith
-
 -- ---- the code's tests: not below 0.0, and at most the limit as a double
 
 -- ±m * 2 ^ e beside 0.0
 lt-zero : (s : Bool) (m : ℕ) (e : ℤ) → lt (fin s m e) (fin false 0 (pos 0)) ≡ below s (m * up e) false 0
 lt-zero s m e =
-    lt-value s (m * up e) (down e) false 0 1 (down-pos e) one-pos (fin s m e) (fin false 0 (pos 0)) (refl, refl) (refl, refl)
+    lt-value s (m * up e) (down e) false 0 1 (down-pos e) one-pos (fin s m e) (fin false 0 (pos 0)) (refl, refl)
+    (refl, refl)
     ∙ ap (λ (w : ℕ). below s w false (0 * down e)) (mul-one (m * up e))
     ∙ ap (λ (w : ℕ). below s (m * up e) false w) (zero-mul (down e))
 
@@ -140,11 +143,13 @@ pub test-below : (limit : ℕ) (x : Float) → lt x (fin false 0 (pos 0)) ≡ tr
 unfolding within
 test-below limit nan h = refl
 test-below limit (inf s) h = refl
-test-below limit (fin false m e) h = absurd (not-lt-zero (m * up e) (ltb-true (m * up e) 0 (sym (lt-zero false m e) ∙ h)))
+test-below limit (fin false m e) h =
+    absurd (not-lt-zero (m * up e) (ltb-true (m * up e) 0 (sym (lt-zero false m e) ∙ h)))
   where
     not-lt-zero : (w : ℕ) → w < 0 → ⊥
     not-lt-zero w l = omega arith
-test-below limit (fin true zero e) h = never (sym (le-ltb 0 (0 * up e + 0) (omega (arith, zero-mul (up e)))) ∙ sym (lt-zero true zero e) ∙ h)
+test-below limit (fin true zero e) h =
+    never (sym (le-ltb 0 (0 * up e + 0) (omega (arith, zero-mul (up e)))) ∙ sym (lt-zero true zero e) ∙ h)
 test-below limit (fin true (suc m) e) h = ap (λ (w : Bool). w || false) (eqb·suc-zero m)
 
 infinite-le : (y : Float) (b : ℕ) → HasValue y false b 1 → le (inf false) y ≡ false
@@ -152,13 +157,16 @@ infinite-le nan b v = absurd v
 infinite-le (inf t) b v = absurd v
 infinite-le (fin t n d) b v = inf-le false t n d
 
-zero-within : (limit m : ℕ) (e : ℤ) → lt (fin true m e) (fin false 0 (pos 0)) ≡ false → within limit (fin true m e) ≡ true
+zero-within : (limit m : ℕ) (e : ℤ) → lt (fin true m e) (fin false 0 (pos 0)) ≡ false
+    → within limit (fin true m e) ≡ true
 unfolding within
 zero-within limit zero e h = refl
 zero-within limit (suc m) e h =
-    never (sym h ∙ lt-zero true (suc m) e ∙ lt-ltb 0 (suc m * up e + 0) (omega (arith, mul-pos (zero-lt-suc m) (up-pos e))))
+    never (sym h ∙ lt-zero true (suc m) e
+    ∙ lt-ltb 0 (suc m * up e + 0) (omega (arith, mul-pos (zero-lt-suc m) (up-pos e))))
 
-pub test-within : (limit : ℕ) (x y : Float) → HasValue y false limit 1 → lt x (fin false 0 (pos 0)) ≡ false → le x y ≡ within limit x
+pub test-within : (limit : ℕ) (x y : Float) → HasValue y false limit 1 → lt x (fin false 0 (pos 0)) ≡ false
+    → le x y ≡ within limit x
 test-within limit nan y v h = unfold within in nan-le y
 test-within limit (inf true) y v h = never (sym h ∙ inf-lt true false 0 (pos 0))
 test-within limit (inf false) y v h = unfold within in infinite-le y limit v
@@ -167,11 +175,13 @@ test-within limit (fin false m e) y v h =
     ∙ ap (λ (w : ℕ). leb w (limit * down e)) (mul-one (m * up e))
     ∙ sym (within-value limit (fin false m e) (m * up e) (down e) (down-pos e) (refl, refl))
 test-within limit (fin true m e) y v h =
-    le-value true (m * up e) (down e) false limit 1 (down-pos e) one-pos (fin true m e) y (refl, refl) v ∙ sym (zero-within limit m e h)
+    le-value true (m * up e) (down e) false limit 1 (down-pos e) one-pos (fin true m e) y (refl, refl) v
+    ∙ sym (zero-within limit m e h)
 
 -- ---- the product by 2 ^ 17 is exact, so cut to a whole number it counts the halves of 1 / 65,536
 
-pub halves : (x : Float) → T (fits binary64 x) → T (within 255 x) → Cut (mul binary64 x (fin false 1 (pos 17))) (131072 * num x) (den x)
+pub halves : (x : Float) → T (fits binary64 x) → T (within 255 x)
+    → Cut (mul binary64 x (fin false 1 (pos 17))) (131072 * num x) (den x)
 halves nan f t = absurd (unfold within in t)
 halves (inf s) f t = absurd (unfold within in t)
 halves (fin s m e) f t =
@@ -179,7 +189,9 @@ halves (fin s m e) f t =
     let d : 0 < down e = down-pos e in
     let y : Float = mul binary64 (fin s m e) (fin false 1 (pos 17)) in
     cut-value y s (131072 * (m * up e)) (down e) d
-    (subst (λ (w : ℕ). HasValue y s w (down e)) (mul-comm (m * up e) 131072) (mul-pow-value binary64 s m e 17 f (lt-of-lt-of-le (small (m * up e) (down e) d l) (mul-le-mul-right (down e) (lit≤ tt)))))
+    (subst (λ (w : ℕ). HasValue y s w (down e)) (mul-comm (m * up e) 131072)
+    (mul-pow-value binary64 s m e 17 f
+    (lt-of-lt-of-le (small (m * up e) (down e) d l) (mul-le-mul-right (down e) (lit≤ tt)))))
     (λ z. omega (arith, within-sign 255 s m e t z)) (omega arith)
   where
     small : (a d : ℕ) → 0 < d → a ≤ 255 * d → a * 131072 < 2 ^ 64 * d
@@ -206,17 +218,20 @@ over q nan v = absurd v
 over q (inf s) v = absurd v
 over q (fin true m e) v = absurd (true≢false (v .0))
 over q (fin false m e) v =
-    round-same binary64 false (m * up e * 1) (65536 * down e) q 65536 (mul-pos (zero-lt-suc 65535) (down-pos e)) (zero-lt-suc 65535)
+    round-same binary64 false (m * up e * 1) (65536 * down e) q 65536 (mul-pos (zero-lt-suc 65535) (down-pos e))
+    (zero-lt-suc 65535)
     (ap (λ (w : ℕ). w * 65536) (v .1) ∙ mul-assoc q (down e) 65536 ∙ ap (λ (w : ℕ). q * w) (mul-comm (down e) 65536))
 
 pub factor-value : (q : ℕ) → q < 2 ^ 53 → HasValue (factorOf q) false q 65536
 unfolding factorOf
 factor-value q h =
     subst (λ (x : Float). HasValue x false q 65536) (sym (over q (ofInt binary64 (pos q)) (ofInt-value q (le-of-lt h))))
-    (round-exact binary64 false q 65536 q 1058 (zero-lt-suc 65535) h (lt-of-lt-of-le (shl-lt 53 1058 h) (lit≤ tt)) (sym (mul-assoc q (2 ^ 1058) 65536)))
+    (round-exact binary64 false q 65536 q 1058 (zero-lt-suc 65535) h (lt-of-lt-of-le (shl-lt 53 1058 h) (lit≤ tt))
+    (sym (mul-assoc q (2 ^ 1058) 65536)))
 
 pub quantized-factor : (limit q : ℕ) → limit ≤ 255 → q ≤ limit * 65536 → quantized limit (factorOf q) ≡ Q16 q
 quantized-factor limit q l h =
     let v = factor-value q (omega arith) in
-    quantized-taken limit (factorOf q) (within-value limit (factorOf q) q 65536 (zero-lt-suc 65535) v ∙ le-leb q (limit * 65536) h)
+    quantized-taken limit (factorOf q)
+    (within-value limit (factorOf q) q 65536 (zero-lt-suc 65535) v ∙ le-leb q (limit * 65536) h)
     ∙ ap Q16 (rounded-value (factorOf q) false q 65536 (zero-lt-suc 65535) v ∙ omega arith)

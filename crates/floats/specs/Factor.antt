@@ -1,5 +1,6 @@
--- q from a factor (document 01, "Restoration and line unsharp"), which factors refusal 8 takes, and the factor of a q ("The 32-byte record").
--- A finite double is the fraction `num` / `den` of lib.Ieee.Positive: m * up e / down e of `fin s m e`, its sign aside.
+-- q from a factor (document 01, "Restoration and line unsharp"), which factors refusal 8 takes, and the factor of a q
+-- ("The 32-byte record"). A finite double is the fraction `num` / `den` of lib.Ieee.Positive: m * up e / down e of `fin
+-- s m e`, its sign aside.
 use Prim.Native.Nat.{ℕ, _+_, _*_, _/_}
 use mathlib.Core.Bool.{Bool, false, not, _&&_, _||_, cond}
 use lib.IntN.{pos}
@@ -15,8 +16,8 @@ within limit nan = false
 within limit (inf s) = false
 within limit (fin s m e) = eqb m 0 || (not s && leb (m * up e) (limit * down e))
 
--- q is the factor × 65,536, rounded half away from zero. Of a factor that is not negative that is its floor after adding 1 / 2:
--- num / den × 65,536 + 1 / 2 is (131,072 × num + den) / (2 × den).
+-- q is the factor × 65,536, rounded half away from zero. Of a factor that is not negative that is its floor after
+-- adding 1 / 2: num / den × 65,536 + 1 / 2 is (131,072 × num + den) / (2 × den).
 unfoldable pub roundedQ16 : Float → ℕ
 roundedQ16 x = (131072 * num x + den x) / (2 * den x)
 
@@ -25,7 +26,8 @@ unfoldable pub quantized : ℕ → Float → Quantized
 unfolding within roundedQ16
 quantized limit x = cond (within limit x) (Q16 (roundedQ16 x)) Refused
 
--- The factor is q / 65,536. `fin false 1 (pos 16)` is 65,536, and the quotient is exact (`factor-value` of proofs/Factor.antt).
+-- The factor is q / 65,536. `fin false 1 (pos 16)` is 65,536, and the quotient is exact (`factor-value` of
+-- proofs/Factor.antt).
 unfoldable pub factorOf : ℕ → Float
 unfolding div ofInt
 factorOf q = div binary64 (ofInt binary64 (pos q)) (fin false 1 (pos 16))

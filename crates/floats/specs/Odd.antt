@@ -1,5 +1,5 @@
--- The blur length from an estimate (document 01, "Whole job and exact run"): the smallest odd whole number that is at least 3 and at least the estimate.
--- That it is the smallest such number is proved in proofs/Odd.antt.
+-- The blur length from an estimate (document 01, "Whole job and exact run"): the smallest odd whole number that is at
+-- least 3 and at least the estimate. That it is the smallest such number is proved in proofs/Odd.antt.
 use Prim.Native.Nat.{ℕ, _+_, _-_, _*_, _/_, _^_, max}
 use mathlib.Core.Bool.{true, false, cond}
 use lib.Dec.{leb}
@@ -19,7 +19,8 @@ oddFrom c = c / 2 * 2 + 1
 unfoldable pub oddOf : ℕ → ℕ → ℕ
 oddOf num den = max 3 (oddFrom (ceiling num den))
 
--- No length is answered for what is not a number and for estimates above 2 ^ 53, beyond every picture. A negative estimate gives 3.
+-- No length is answered for what is not a number and for estimates above 2 ^ 53, beyond every picture. A negative
+-- estimate gives 3.
 unfoldable pub oddLength : Float → OddLength
 unfolding oddOf
 oddLength nan = Beyond

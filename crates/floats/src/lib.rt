@@ -31,7 +31,7 @@ pub fn is_finite(x: f64) -> bool
 }
 
 // Whether refusal 8 takes the factor.
-fn is_within(factor: f64, limit: u8) -> bool
+pub fn is_within(factor: f64, limit: u8) -> bool
     ensures { λ r. ⌜ r ≡ within limit factor ⌝ }
 {
     if factor < 0.0 {
@@ -41,7 +41,7 @@ fn is_within(factor: f64, limit: u8) -> bool
 }
 
 // q of a factor that is taken. The product is exact, so the rounding is the integers' alone.
-fn round_q16(factor: f64) -> u32
+pub fn round_q16(factor: f64) -> u32
     requires { ⌜ T (within 255 factor) ⌝ }
     ensures { λ r. ⌜ r ≡ roundedQ16 factor ⌝ }
 {

@@ -10,6 +10,11 @@ pub cond-zero : (t : Bool) (n m : ℕ) → 0 < n → cond t n m ≡ 0 → (t ≡
 cond-zero true n m h e = absurd (omega (arith, h, e))
 cond-zero false n m h e = (refl, e)
 
+-- a test that must hold gives 0
+pub cond-left : (t : Bool) (n : ℕ) → 0 < n → cond t 0 n ≡ 0 → t ≡ true
+cond-left true n h e = refl
+cond-left false n h e = absurd (omega (arith, h, e))
+
 pub first-zero : (a b : ℕ) → firstRefusal a b ≡ 0 → (a ≡ 0) × (b ≡ 0)
 first-zero zero b e = (refl, e)
 first-zero (suc a) b e = absurd (omega (arith, e))

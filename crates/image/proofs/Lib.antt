@@ -1,13 +1,9 @@
 -- The laws of `image`.
+pub mod Call
 pub mod Chain
 pub mod Refusal
 pub mod Pair
 pub mod Picture
-pub mod Held
-pub mod AnyView
-pub mod BothViews
-pub mod Method
-pub mod Getter
+pub mod ViewParameters
 pub mod ViewRefusal
-pub mod ViewNew
 pub mod Examples

@@ -29,7 +29,8 @@ module _ (xs : List ℕ) (width height stride : ℕ) where
   row-none row (inr h) = simp (le-ltb row height h, and-false)
 
   module _ (l : Laid (length xs) width height stride) where
-    pub pixel-inside : (c r : ℕ) → c < width → r < height → pixelOf xs width height stride c r ≡ Value (pixel xs stride c r)
+    pub pixel-inside : (c r : ℕ) → c < width → r < height
+        → pixelOf xs width height stride c r ≡ Value (pixel xs stride c r)
     unfolding pixelOf
     pixel-inside c r hc hr = simp (accepted l, lt-ltb c width hc, lt-ltb r height hr)
 
@@ -40,7 +41,8 @@ module _ (xs : List ℕ) (width height stride : ℕ) where
 
       pub row-length : length (rowOf xs width height stride row) ≡ width
       row-length =
-          ap length row-is ∙ length-take-le width (drop (row * stride) xs) (simp length-drop (omega (arith, row-within l row h)))
+          ap length row-is ∙ length-take-le width (drop (row * stride) xs)
+          (simp length-drop (omega (arith, row-within l row h)))
 
       -- the row's elements are its pixels
       pub row-pixel : (c : ℕ) → c < width → getD (rowOf xs width height stride row) c 0 ≡ pixel xs stride c row

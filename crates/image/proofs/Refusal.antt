@@ -1,47 +1,79 @@
 -- When a layout is given which number, and what it is to be accepted.
 use Prim.Native.Nat.{ℕ, _+_, _*_, _-_, _/_, _≤_, _<_, _^_}
-use native.Mathlib.Nat.{mul-le-mul, mul-le-mul-left, mul-comm, pos-of-ne-zero, ne-of-gt, div-lt-iff-lt-mul, le-div-iff-mul-le}
+use native.Mathlib.Nat.{mul-le-mul, mul-le-mul-left, mul-comm, pos-of-ne-zero, ne-of-gt, div-lt-iff-lt-mul}
+use native.Mathlib.Nat.{le-div-iff-mul-le}
 use native.Mathlib.Omega.{arith}
 use mathlib.Core.Bool.{false, _||_, or-true}
 use mathlib.Core.Logic.{_⊎_, inl, inr}
-use mathlib.Core.Path.{_≡_}
+use mathlib.Core.Path.{_≡_, sym, _∙_}
 use lib.Dec.{eqb, ltb}
 use borrow.Author.Tests.{eq-eqb, ne-eqb, lt-ltb, le-ltb, eqb-false, ltb-false}
-use Rattle.image.specs.Refusal.{layoutRefusal, Laid}
-use Rattle.image.proofs.Chain.{cond-zero}
+use Rattle.image.specs.Refusal.{maxSide, sidesRefusal, rowsRefusal, layoutRefusal, Laid}
+use Rattle.image.proofs.Chain.{cond-zero, first-zero, first-own}
 use Rattle.numbers.proofs.Test.{or-false-intro, or-false-left, or-false-right}
 
--- Each number in its condition.
-module _ (len width height stride : ℕ) where
-  pub layout-1 : (width ≡ 0) ⊎ (height ≡ 0) → layoutRefusal len width height stride ≡ 1
-  unfolding layoutRefusal
-  layout-1 (inl e) = simp (eq-eqb width 0 e)
-  layout-1 (inr e) = simp (eq-eqb height 0 e, or-true)
+-- Each number in its condition: the sides, ..
+module _ (width height : ℕ) where
+  pub sides-1 : (width ≡ 0) ⊎ (height ≡ 0) → sidesRefusal width height ≡ 1
+  unfolding sidesRefusal
+  sides-1 (inl e) = simp (eq-eqb width 0 e)
+  sides-1 (inr e) = simp (eq-eqb height 0 e, or-true)
 
   module _ (pw : 0 < width) (ph : 0 < height) where
-    sides : (eqb width 0 || eqb height 0) ≡ false
-    sides = or-false-intro (ne-eqb width 0 (ne-of-gt pw)) (ne-eqb height 0 (ne-of-gt ph))
+    some : (eqb width 0 || eqb height 0) ≡ false
+    some = or-false-intro (ne-eqb width 0 (ne-of-gt pw)) (ne-eqb height 0 (ne-of-gt ph))
 
-    pub layout-2 : (1024 < width) ⊎ (1024 < height) → layoutRefusal len width height stride ≡ 2
-    unfolding layoutRefusal
-    layout-2 (inl h) = simp (sides, lt-ltb 1024 width h)
-    layout-2 (inr h) = simp (sides, lt-ltb 1024 height h, or-true)
+    pub sides-2 : (maxSide < width) ⊎ (maxSide < height) → sidesRefusal width height ≡ 2
+    unfolding sidesRefusal
+    sides-2 (inl h) = simp (some, lt-ltb maxSide width h)
+    sides-2 (inr h) = simp (some, lt-ltb maxSide height h, or-true)
 
-    module _ (mw : width ≤ 1024) (mh : height ≤ 1024) where
-      within : (ltb 1024 width || ltb 1024 height) ≡ false
-      within = or-false-intro (le-ltb 1024 width mw) (le-ltb 1024 height mh)
+    pub sides-0 : width ≤ maxSide → height ≤ maxSide → sidesRefusal width height ≡ 0
+    unfolding sidesRefusal
+    sides-0 mw mh = simp (some, le-ltb maxSide width mw, le-ltb maxSide height mh)
 
-      pub layout-3 : stride < width → layoutRefusal len width height stride ≡ 3
-      unfolding layoutRefusal
-      layout-3 h = simp (sides, within, lt-ltb stride width h)
+  -- accepted sides
+  pub sides-some : sidesRefusal width height ≡ 0 → (0 < width) × (0 < height)
+  unfolding sidesRefusal
+  sides-some e =
+      let a = cond-zero (eqb width 0 || eqb height 0) 1 _ (omega arith) e .0 in (
+        pos-of-ne-zero (eqb-false width 0 (or-false-left (eqb width 0) (eqb height 0) a)),
+        pos-of-ne-zero (eqb-false height 0 (or-false-right (eqb width 0) (eqb height 0) a)),
+      )
 
-      pub layout-4 : width ≤ stride → len < stride * (height - 1) + width → layoutRefusal len width height stride ≡ 4
-      unfolding layoutRefusal
-      layout-4 s h = simp (sides, within, le-ltb stride width s, lt-ltb len (stride * (height - 1) + width) h)
+  pub sides-few : sidesRefusal width height ≡ 0 → (width ≤ maxSide) × (height ≤ maxSide)
+  unfolding sidesRefusal
+  sides-few e =
+      let large = ltb maxSide width || ltb maxSide height in
+      let a = cond-zero large 2 0 (omega arith) (cond-zero (eqb width 0 || eqb height 0) 1 _ (omega arith) e .1) .0 in (
+        ltb-false maxSide width (or-false-left (ltb maxSide width) (ltb maxSide height) a),
+        ltb-false maxSide height (or-false-right (ltb maxSide width) (ltb maxSide height) a),
+      )
 
-      pub layout-0 : width ≤ stride → stride * (height - 1) + width ≤ len → layoutRefusal len width height stride ≡ 0
-      unfolding layoutRefusal
-      layout-0 s h = simp (sides, within, le-ltb stride width s, le-ltb len (stride * (height - 1) + width) h)
+-- .. and the rows
+module _ (len width height stride : ℕ) where
+  pub layout-sides : (sidesRefusal width height ≡ 0 → ⊥)
+      → layoutRefusal len width height stride ≡ sidesRefusal width height
+  unfolding layoutRefusal
+  layout-sides h = first-own (sidesRefusal width height) _ h
+
+  pub layout-1 : (width ≡ 0) ⊎ (height ≡ 0) → layoutRefusal len width height stride ≡ 1
+  layout-1 h =
+      let e = sides-1 width height h in
+      layout-sides (λ z. let n : _≡_ {A = ℕ} 1 0 = sym e ∙ z in omega arith) ∙ e
+
+  module _ (taken : sidesRefusal width height ≡ 0) where
+    pub layout-3 : stride < width → layoutRefusal len width height stride ≡ 3
+    unfolding layoutRefusal rowsRefusal
+    layout-3 h = simp (taken, lt-ltb stride width h)
+
+    pub layout-4 : width ≤ stride → len < stride * (height - 1) + width → layoutRefusal len width height stride ≡ 4
+    unfolding layoutRefusal rowsRefusal
+    layout-4 s h = simp (taken, le-ltb stride width s, lt-ltb len (stride * (height - 1) + width) h)
+
+    pub layout-0 : width ≤ stride → stride * (height - 1) + width ≤ len → layoutRefusal len width height stride ≡ 0
+    unfolding layoutRefusal rowsRefusal
+    layout-0 s h = simp (taken, le-ltb stride width s, le-ltb len (stride * (height - 1) + width) h)
 
 -- The test for 4 by a quotient, which cannot wrap.
 module _ (len width k stride : ℕ) (ps : 0 < stride) (h : width ≤ len) where
@@ -56,22 +88,23 @@ module _ {len width height stride : ℕ} where
   pub laid : layoutRefusal len width height stride ≡ 0 → Laid len width height stride
   unfolding layoutRefusal
   laid e =
-      let a = cond-zero _ 1 _ (omega arith) e in
-      let b = cond-zero _ 2 _ (omega arith) (a .1) in
-      let d = cond-zero _ 3 _ (omega arith) (b .1) in
+      let s = first-zero (sidesRefusal width height) _ e in
+      let d = cond-zero _ 3 _ (omega arith) (s .1) in
       let f = cond-zero _ 4 _ (omega arith) (d .1) in
       record {
-        width-pos = pos-of-ne-zero (eqb-false width 0 (or-false-left (eqb width 0) (eqb height 0) (a .0)));
-        width-most = ltb-false 1024 width (or-false-left (ltb 1024 width) (ltb 1024 height) (b .0));
-        height-pos = pos-of-ne-zero (eqb-false height 0 (or-false-right (eqb width 0) (eqb height 0) (a .0)));
-        height-most = ltb-false 1024 height (or-false-right (ltb 1024 width) (ltb 1024 height) (b .0));
+        width-pos = sides-some width height (s .0) .0;
+        width-most = sides-few width height (s .0) .0;
+        height-pos = sides-some width height (s .0) .1;
+        height-most = sides-few width height (s .0) .1;
         stride-least = ltb-false stride width (d .0);
         len-least = ltb-false len (stride * (height - 1) + width) (f .0);
       }
 
   pub accepted : Laid len width height stride → layoutRefusal len width height stride ≡ 0
   accepted l =
-      layout-0 len width height stride (l .width-pos) (l .height-pos) (l .width-most) (l .height-most) (l .stride-least) (l .len-least)
+      layout-0 len width height stride (sides-0 width height (l .width-pos) (l .height-pos)
+      (l .width-most) (l .height-most))
+      (l .stride-least) (l .len-least)
 
   -- Places of an accepted picture. Row r ends within the bytes; so lies each of its pixels.
   pub row-within : Laid len width height stride → (r : ℕ) → r < height → r * stride + width ≤ len
@@ -81,7 +114,8 @@ module _ {len width height stride : ℕ} where
   pub place-within : Laid len width height stride → (c r : ℕ) → c < width → r < height → r * stride + c < len
   place-within l c r hc hr = omega (arith, hc, row-within l r hr)
 
-  pub place-small : Laid len width height stride → (c r : ℕ) → c < width → r < height → len < 2 ^ 63 → r * stride + c < 2 ^ 63
+  pub place-small : Laid len width height stride → (c r : ℕ) → c < width → r < height → len < 2 ^ 63
+      → r * stride + c < 2 ^ 63
   place-small l c r hc hr h = omega (arith, h, place-within l c r hc hr)
 
   pub area-most : Laid len width height stride → width * height ≤ 2 ^ 20

@@ -2,3 +2,4 @@
 pub mod Refusal
 pub mod Picture
 pub mod View
+pub mod Call

@@ -1,6 +1,6 @@
 // Pictures in the caller's bytes: the layout's refusals, pixels and rows.
 ghost use mathlib.Core.Path.{_≡_};
-ghost use Rattle.image.specs.Refusal.{layoutRefusal, pairRefusal};
+ghost use Rattle.image.specs.Refusal.{sidesRefusal, layoutRefusal, pairRefusal};
 ghost use Rattle.image.specs.Picture.{pixelOf, rowOf};
 
 pub mod view;
@@ -8,15 +8,26 @@ pub mod view;
 pub use view::Gray8View;
 pub use view::Gray8ViewMut;
 
-// Refusals 1 to 4 of a picture in len bytes; 0 where it is accepted.
-pub fn layout_refusal(len: usize, width: usize, height: usize, stride: usize) -> u8
-    ensures { λ r. ⌜ r ≡ layoutRefusal len width height stride ⌝ }
+// Refusals 1 and 2 of a picture's sides; 0 where they are accepted.
+pub fn sides_refusal(width: usize, height: usize) -> u8
+    ensures { λ r. ⌜ r ≡ sidesRefusal width height ⌝ }
 {
     if width == 0 || height == 0 {
         return 1;
     }
-    if width > 1024 || height > 1024 {
+    if width > Gray8View::MAX_SIDE || height > Gray8View::MAX_SIDE {
         return 2;
+    }
+    0
+}
+
+// Refusals 1 to 4 of a picture in len bytes; 0 where it is accepted.
+pub fn layout_refusal(len: usize, width: usize, height: usize, stride: usize) -> u8
+    ensures { λ r. ⌜ r ≡ layoutRefusal len width height stride ⌝ }
+{
+    let sides = sides_refusal(width, height);
+    if sides != 0 {
+        return sides;
     }
     if stride < width {
         return 3;

@@ -1,4 +1,5 @@
-// Views: a picture in the caller's bytes, which a view borrows. Making one refuses nothing; each call over it refuses by its own rules.
+// Views: a picture in the caller's bytes, which a view borrows. Making one refuses nothing; each call over it refuses
+// by its own rules.
 ghost use mathlib.Core.Path.{_≡_};
 ghost use lib.ListN.{length};
 ghost use Rattle.image.specs.Refusal.{layoutRefusal};
@@ -23,6 +24,9 @@ pub struct Gray8ViewMut<'a> {
 }
 
 impl<'a> Gray8View<'a> {
+    // The longest side.
+    pub const MAX_SIDE: usize = 1024;
+
     pub fn new(data: &'a [u8], width: usize, height: usize, stride: usize) -> Gray8View<'a>
         ensures { λ r. ⌜ r ≡ viewOf («data» .entry) width height stride ⌝ }
     {
@@ -36,19 +40,22 @@ impl<'a> Gray8View<'a> {
 
     // Refusals 1 to 4 of the layout; 0 where it is accepted.
     pub fn refusal(self) -> u8
-        ensures { λ r. ⌜ r ≡ layoutRefusal (length (now (self .entry .«data»))) (self .entry .width) (self .entry .height) (self .entry .stride) ⌝ }
+        ensures { λ r. ⌜ r ≡ layoutRefusal (length (now (self .entry .«data»))) (self .entry .width)
+            (self .entry .height) (self .entry .stride) ⌝ }
     {
         crate::layout_refusal(self.data.len(), self.width, self.height, self.stride)
     }
 
     pub fn row(self, y: usize) -> &'a [u8]
-        ensures { λ r. ⌜ now r ≡ rowOf (now (self .entry .«data»)) (self .entry .width) (self .entry .height) (self .entry .stride) y ⌝ }
+        ensures { λ r. ⌜ now r ≡ rowOf (now (self .entry .«data»)) (self .entry .width) (self .entry .height)
+            (self .entry .stride) y ⌝ }
     {
         crate::row_of(self.data, self.width, self.height, self.stride, y)
     }
 
     pub fn get(self, x: usize, y: usize) -> Pixel
-        ensures { λ p. ⌜ p ≡ pixelOf (now (self .entry .«data»)) (self .entry .width) (self .entry .height) (self .entry .stride) x y ⌝ }
+        ensures { λ p. ⌜ p ≡ pixelOf (now (self .entry .«data»)) (self .entry .width) (self .entry .height)
+            (self .entry .stride) x y ⌝ }
     {
         crate::pixel_of(self.data, self.width, self.height, self.stride, x, y)
     }
@@ -87,7 +94,8 @@ impl<'a> Gray8ViewMut<'a> {
     // Refusals 1 to 4 of the layout; 0 where it is accepted.
     pub fn refusal(self) -> u8
         ensures { λ r. ⌜ OnlyReads (now (self .entry .«data»)) (now (self .exit .0)) r
-            (layoutRefusal (length (now (self .entry .«data»))) (self .entry .width) (self .entry .height) (self .entry .stride)) ⌝ }
+            (layoutRefusal (length (now (self .entry .«data»))) (self .entry .width) (self .entry .height)
+            (self .entry .stride)) ⌝ }
     {
         crate::layout_refusal(self.data.len(), self.width, self.height, self.stride)
     }

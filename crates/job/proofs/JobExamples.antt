@@ -1,5 +1,6 @@
--- Plans of small pictures. Document 01's ramp (three equal rows, "Length") has the direction Vertical, along which nothing changes: refusal 11. A picture whose columns are such ramps and
--- whose rows differ more has the direction Vertical too, the estimate 5.0 and the blur length 5.
+-- Plans of small pictures. Document 01's ramp (three equal rows, "Length") has the direction Vertical, along which
+-- nothing changes: refusal 11. A picture whose columns are such ramps and whose rows differ more has the direction
+-- Vertical too, the estimate 5.0 and the blur length 5.
 use mathlib.Core.List.{List, [], _∷_, _++_}
 use mathlib.Core.Path.{_≡_, refl}
 use Prim.Native.Nat.{ℕ}
@@ -7,7 +8,9 @@ use lib.Ieee.{binary64, ofBits, ofInt, add, sub, mul, div, le, lt, eq}
 use lib.ListN.{length}
 use Rattle.numbers.specs.Sum.{total}
 use Rattle.floats.specs.Factor.{within}
+use Rattle.deblur.specs.Refusal.{factorRefusal, iterationsRefusal}
 use Rattle.floats.specs.Odd.{oddOf, oddLength}
+use Rattle.image.specs.Call.{gray8, accepts, refuses}
 use Rattle.image.specs.Refusal.{layoutRefusal, pairRefusal}
 use Rattle.raster.specs.Lines.{startCol, startRow}
 use Rattle.raster.specs.declared.border.LineBorderMode.the-variants.{Replicate}
@@ -16,21 +19,15 @@ use Rattle.swings.specs.Rise.{levelOf, crossedAt, placeAt, crossingOf, riseBetw
 use Rattle.swings.specs.Runs.{runsFrom, runsAfter}
 use Rattle.swings.specs.Swings.{swingsOf, lineSwings, swingsFrom}
 use Rattle.tensor.specs.Tensor.{gradientX, gradientY, rowSum, interiorSum, tensorSums, tensorDirection, estimateOf}
-use Rattle.job.specs.declared.JobAnswer.the-variants.{Done, Refused}
-use Rattle.job.specs.Job.{Job, settingsRefusal, jobRefusal, pictureDirection, jobDirection, plan}
+use Rattle.job.specs.Job.{layout, Job, jobRefusal, pictureDirection, jobDirection, plan}
 
--- a picture without padding into one like it, one iteration of relaxation 1, with thresholds 3 and 24 and the scratch that is asked
+-- a picture without padding into one like it, one iteration of relaxation 1, with thresholds 3 and 24 and the scratch
+-- that is asked
 abbrev tight : List ℕ → ℕ → ℕ → Job
 tight source width height =
     record {
-      source = source;
-      width = width;
-      height = height;
-      stride = width;
-      dst-len = length source;
-      dst-width = width;
-      dst-height = height;
-      dst-stride = width;
+      source = gray8 source width height width;
+      destination = layout (length source) width height width;
       config =
           record {
             «minimum_transitions» = 3;
@@ -54,8 +51,10 @@ ramp-vertical : jobDirection ramp ≡ Vertical
 unfolding ramp row pictureDirection estimateOf tensorSums tensorDirection interiorSum rowSum gradientX gradientY total
 ramp-vertical = refl
 
-ramp-refused : plan ramp ≡ Refused 11
-unfolding ramp row plan jobRefusal pairRefusal layoutRefusal settingsRefusal within pictureDirection estimateOf tensorSums tensorDirection interiorSum rowSum gradientX gradientY total startCol startRow swingsFrom lineSwings swingsOf runsAfter runsFrom riseOf ofBits
+ramp-refused : plan ramp ≡ refuses 11
+unfolding ramp row plan jobRefusal pairRefusal layoutRefusal factorRefusal iterationsRefusal within pictureDirection
+    estimateOf tensorSums tensorDirection interiorSum rowSum gradientX gradientY total startCol startRow swingsFrom
+    lineSwings swingsOf runsAfter runsFrom riseOf ofBits
 ramp-refused = refl
 
 -- 3 by 10: from row to row as the ramp by 10, from column to column by 100
@@ -67,6 +66,10 @@ columns =
     3
     10
 
-columns-run : plan columns ≡ Done (record { direction = Vertical; «blur_length» = 5; estimate = ofBits binary64 0x4014_0000_0000_0000 })
-unfolding columns plan jobRefusal pairRefusal layoutRefusal settingsRefusal within pictureDirection estimateOf tensorSums tensorDirection interiorSum rowSum gradientX gradientY total startCol startRow swingsFrom lineSwings swingsOf runsAfter runsFrom riseOf levelOf crossedAt placeAt crossingOf riseBetween oddOf oddLength ofBits ofInt add sub mul div le lt eq
+columns-run : plan columns ≡ accepts (record
+    { direction = Vertical; «blur_length» = 5; estimate = ofBits binary64 0x4014_0000_0000_0000 })
+unfolding columns plan jobRefusal pairRefusal layoutRefusal factorRefusal iterationsRefusal within pictureDirection
+    estimateOf tensorSums tensorDirection interiorSum rowSum gradientX gradientY total startCol startRow swingsFrom
+    lineSwings swingsOf runsAfter runsFrom riseOf levelOf crossedAt placeAt crossingOf riseBetween oddOf oddLength
+    ofBits ofInt add sub mul div le lt eq
 columns-run = refl

@@ -1,8 +1,6 @@
 -- The laws of `job`, by subject.
 pub mod Examples
 pub mod JobExamples
-pub mod ExactLaws
-pub mod NearLine
 pub mod NearPicture
 pub mod Plans
 pub mod Settings

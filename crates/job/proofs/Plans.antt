@@ -1,25 +1,34 @@
--- What a plan says: the refusals in their conditions, and that an accepted job (`job-accepted`) with a result has a length that the restoration takes (`plan-length`)
--- and an estimate that is positive and finite (`plan-estimate`).
-use mathlib.Core.Bool.{Bool, true, false, not, cond, _||_, or-true}
-use mathlib.Core.Logic.{_⊎_, inl, inr}
+-- What a plan says: the refusals in their conditions, and that an accepted job (`job-accepted`) with a result has a
+-- length that the restoration takes (`plan-length`) and an estimate that is positive and finite (`plan-estimate`).
+use mathlib.Core.Bool.{Bool, true, false, not, cond, _&&_, _||_}
+use mathlib.Core.Logic.{_⊎_, inl, inr, ⊎-elim}
 use mathlib.Core.Path.{_≡_, refl, sym, ap, _∙_, subst}
-use Prim.Native.Nat.{ℕ, zero, suc, _+_, _*_, _%_, _^_, _≤_, _<_, max}
-use native.Mathlib.Nat.{zero-lt-suc, pos-of-ne-zero}
+use Prim.Native.Nat.{ℕ, zero, suc, _+_, _-_, _*_, _%_, _^_, _≤_, _<_}
 use native.Mathlib.Omega.{arith}
-use borrow.Author.Tests.{eq-eqb, ne-eqb, eqb-false, lt-ltb, le-ltb, ltb-false, not-false}
+use borrow.Author.Tests.{lt-ltb, le-ltb, ltb-false}
 use lib.Dec.{T, eqb, ltb, leb}
 use lib.Ieee.{Float, nan, inf, fin, binary64, up, down}
 use lib.Ieee.Fits.{down-pos}
 use lib.Ieee.Positive.{positive, above}
 use lib.ListN.{length}
-use Rattle.numbers.proofs.Test.{or-false-left, or-false-right, or-false-intro}
+use Rattle.numbers.proofs.Test.{or-false-left, or-false-right}
 use Rattle.floats.specs.Factor.{within}
 use Rattle.floats.specs.Odd.{oddOf, oddLength}
 use Rattle.floats.specs.declared.OddLength.{OddLength}
 use Rattle.floats.specs.declared.OddLength.the-variants.{Length, Beyond}
 use Rattle.floats.proofs.Odd.{oddOf-odd, oddOf-three}
-use Rattle.image.specs.Refusal.{pairRefusal}
-use Rattle.image.proofs.Chain.{cond-zero}
+use Rattle.image.specs.Call.{Decision, accepts, refuses, unless, KeepsScratch}
+use Rattle.image.specs.Refusal.{
+  maxSide,
+  pairRefusal,
+  layoutRefusal,
+  sidesRefusal,
+  rowsRefusal,
+  destinationRefusal,
+  sizesRefusal,
+  firstRefusal,
+}
+use Rattle.image.proofs.Call.{unless-refuses, unless-accepts}
 use Rattle.image.proofs.Pair.{laid-pair}
 use Rattle.raster.specs.declared.direction.RasterDirection4.{RasterDirection4}
 use Rattle.blur.specs.declared.length.LengthAnswer.{LengthAnswer}
@@ -28,96 +37,139 @@ use Rattle.blur.specs.declared.length.LineLength.{LineLength}
 use Rattle.blur.specs.declared.length.LineLength.the-variants.{Found, Nothing}
 use Rattle.blur.specs.Select.{Positive}
 use Rattle.blur.proofs.Above.{length-above}
-use Rattle.deblur.specs.Refusal.{scratchShort}
-use Rattle.deblur.proofs.Refusals.{order-pictures, order-settings, order-10, order-0, order-zero}
+use Rattle.deblur.specs.Refusal.{
+  maxIterations,
+  maxRelaxation,
+  maxBlurLength,
+  scratchNeeded,
+  factorRefusal,
+  iterationsRefusal,
+  iteratedRefusal,
+  scratchShort,
+  lentRefusal,
+  LengthTaken,
+}
+use Rattle.deblur.proofs.Refusals.{iterated-taken, order-pictures, order-lent, order-zero}
 use Rattle.job.specs.declared.JobResult.{JobResult}
 use Rattle.job.specs.declared.JobAnswer.{JobAnswer}
 use Rattle.job.specs.declared.JobAnswer.the-variants.{Done, Refused}
-use Rattle.job.specs.Job.{Job, settingsRefusal, lentShort, jobRefusal, planOdd, planLength, planFrom, plan, jobDirection, jobLength, JobAccepted, LengthTaken}
+use Rattle.job.specs.Job.{
+  Job,
+  lentShort,
+  picturesRefusal,
+  jobRefusal,
+  planOdd,
+  planLength,
+  plan,
+  jobAnswer,
+  jobDecided,
+  jobDirection,
+  jobLength,
+  JobAccepted,
+}
 use Rattle.job.specs.Parts.{lengthIn}
 
--- ---- 8 and 9
+-- ---- an answer and its decision
 
-module _ (iterations : ℕ) (relaxation : Float) where
-  abbrev relaxed : Bool
-  relaxed = within 1 relaxation
+pub job-told : (decision : Decision JobResult) → jobDecided (jobAnswer decision) ≡ decision
+job-told (accepts result) = refl
+job-told (refuses number) = refl
 
-  pub settings-8 : (iterations ≡ 0) ⊎ (relaxed ≡ false) → settingsRefusal iterations relaxation ≡ 8
-  unfolding settingsRefusal
-  settings-8 (inl h) = rw (eq-eqb iterations 0 h)
-  settings-8 (inr h) = rw (h, or-true (eqb iterations 0))
-
-  module _ (least : 1 ≤ iterations) (taken : relaxed ≡ true) where
-    no-8 : (eqb iterations 0 || not relaxed) ≡ false
-    no-8 = or-false-intro (ne-eqb iterations 0 (λ z. omega arith)) (ap not taken)
-
-    pub settings-9 : 22 < iterations → settingsRefusal iterations relaxation ≡ 9
-    unfolding settingsRefusal
-    settings-9 h = rw (no-8, lt-ltb 22 iterations h)
-
-    pub settings-0 : iterations ≤ 22 → settingsRefusal iterations relaxation ≡ 0
-    unfolding settingsRefusal
-    settings-0 h = rw (no-8, le-ltb 22 iterations h)
-
-  pub settings-taken : settingsRefusal iterations relaxation ≡ 0 → (1 ≤ iterations) × (iterations ≤ 22) × (relaxed ≡ true)
-  unfolding settingsRefusal
-  settings-taken e =
-      let a = cond-zero _ 8 _ (zero-lt-suc 7) e in
-      let b = cond-zero _ 9 _ (zero-lt-suc 8) (a .1) in (
-        pos-of-ne-zero (eqb-false iterations 0 (or-false-left (eqb iterations 0) (not relaxed) (a .0))),
-        ltb-false 22 iterations (b .0),
-        not-false _ (or-false-right (eqb iterations 0) (not relaxed) (a .0)),
-      )
+pub job-decided : {decision : Decision JobResult} {answer : JobAnswer} → answer ≡ jobAnswer decision
+    → decision ≡ jobDecided answer
+job-decided {decision} e = sym (job-told decision) ∙ ap jobDecided (sym e)
 
 -- ---- the order of the numbers
 
 module _ (j : Job) where
   abbrev pictures : ℕ
-  pictures = pairRefusal (length (j .source)) (j .width) (j .height) (j .stride) (j .dst-len) (j .dst-width) (j .dst-height) (j .dst-stride)
+  pictures = picturesRefusal (j .source) (j .destination)
 
   abbrev settings : ℕ
-  settings = settingsRefusal (j .config .iterations) (j .config .relaxation)
+  settings = iteratedRefusal (j .config .relaxation) (j .config .iterations)
 
   abbrev short : Bool
-  short = lentShort (j .width) (j .height) (j .scratch-len) (j .swings-len)
+  short = lentShort (j .source .width) (j .source .height) (j .scratch-len) (j .swings-len)
 
   pub job-pictures : (pictures ≡ 0 → ⊥) → jobRefusal j ≡ pictures
   unfolding jobRefusal
   job-pictures = order-pictures pictures settings short
 
-  pub job-settings : pictures ≡ 0 → (settings ≡ 0 → ⊥) → jobRefusal j ≡ settings
+  pub job-lent : pictures ≡ 0 → jobRefusal j ≡ firstRefusal settings (lentRefusal short)
   unfolding jobRefusal
-  job-settings = order-settings pictures settings short
-
-  pub job-10 : pictures ≡ 0 → settings ≡ 0 → (j .scratch-len < 3 * (j .width * j .height)) ⊎ (j .swings-len < j .width * j .height) → jobRefusal j ≡ 10
-  unfolding jobRefusal
-  job-10 e d (inl h) = order-10 pictures settings short e d (rw (lt-ltb (j .scratch-len) (3 * (j .width * j .height)) h))
-  job-10 e d (inr h) =
-      order-10 pictures settings short e d (rw (lt-ltb (j .swings-len) (j .width * j .height) h) (or-true (scratchShort (j .width) (j .height) (j .scratch-len))))
-
-  pub job-0 : pictures ≡ 0 → settings ≡ 0 → 3 * (j .width * j .height) ≤ j .scratch-len → j .width * j .height ≤ j .swings-len → jobRefusal j ≡ 0
-  unfolding jobRefusal
-  job-0 e d h k =
-      order-0 pictures settings short e d (or-false-intro (le-ltb (j .scratch-len) (3 * (j .width * j .height)) h) (le-ltb (j .swings-len) (j .width * j .height) k))
+  job-lent = order-lent pictures settings short
 
   pub job-accepted : jobRefusal j ≡ 0 → JobAccepted j
   unfolding jobRefusal
   job-accepted e =
       let a = order-zero pictures settings short e in
-      let s = settings-taken (j .config .iterations) (j .config .relaxation) (a .1) in
-      let scratch = scratchShort (j .width) (j .height) (j .scratch-len) in
-      let swings = ltb (j .swings-len) (j .width * j .height) in
+      let s = iterated-taken (j .config .relaxation) (j .config .iterations) (a .1) in
+      let w = j .source .width in
+      let h = j .source .height in
+      let scratch = scratchShort w h (j .scratch-len) in
+      let swings = ltb (j .swings-len) (w * h) in
       record {
         runnable =
             record {
               pictures = laid-pair (a .0);
-              iterations-least = s .0;
-              iterations-most = s .1;
-              relaxation-taken = s .2;
-              scratch-least = ltb-false (j .scratch-len) (3 * (j .width * j .height)) (or-false-left scratch swings (a .2));
+              relaxation-taken = s .0;
+              iterations-taken = s .1;
+              scratch-least = ltb-false (j .scratch-len) (scratchNeeded w h) (or-false-left scratch swings (a .2));
             };
-        swings-least = ltb-false (j .swings-len) (j .width * j .height) (or-false-right scratch swings (a .2));
+        swings-least = ltb-false (j .swings-len) (w * h) (or-false-right scratch swings (a .2));
       }
+
+-- ---- they are 1 to 10
+
+cond-most : (b : Bool) (m n : ℕ) → m ≤ 10 → n ≤ 10 → cond b m n ≤ 10
+cond-most true m n h g = h
+cond-most false m n h g = g
+
+first-most : (m n : ℕ) → m ≤ 10 → n ≤ 10 → firstRefusal m n ≤ 10
+first-most zero n h g = g
+first-most (suc m) n h g = h
+
+-- two tests, for a number and the next
+tests-most : (b c : Bool) (m : ℕ) → m + 1 ≤ 10 → cond b m (cond c (m + 1) 0) ≤ 10
+tests-most b c m h = cond-most b m (cond c (m + 1) 0) (omega arith) (cond-most c (m + 1) 0 h (omega arith))
+
+module _ (w h : ℕ) where
+  layout-most : (len stride : ℕ) → layoutRefusal len w h stride ≤ 10
+  unfolding layoutRefusal sidesRefusal rowsRefusal
+  layout-most len stride =
+      first-most (sidesRefusal w h) (rowsRefusal len w h stride)
+      (tests-most (eqb w 0 || eqb h 0) (ltb maxSide w || ltb maxSide h) 1 (omega arith))
+      (tests-most (ltb stride w) (ltb len (stride * (h - 1) + w)) 3 (omega arith))
+
+  pair-most : (len stride dstLen dstWidth dstHeight dstStride : ℕ)
+      → pairRefusal len w h stride dstLen dstWidth dstHeight dstStride ≤ 10
+  unfolding pairRefusal destinationRefusal sizesRefusal
+  pair-most len stride dstLen dstWidth dstHeight dstStride =
+      first-most (layoutRefusal len w h stride)
+      (firstRefusal (destinationRefusal dstLen dstWidth dstHeight dstStride) (sizesRefusal w h dstWidth dstHeight))
+      (layout-most len stride)
+      (first-most (destinationRefusal dstLen dstWidth dstHeight dstStride) (sizesRefusal w h dstWidth dstHeight)
+      (cond-most (eqb (layoutRefusal dstLen dstWidth dstHeight dstStride) 0) 0 5 (omega arith) (omega arith))
+      (cond-most (eqb dstWidth w && eqb dstHeight h) 0 6 (omega arith) (omega arith)))
+
+iterated-most : (relaxation : Float) (iterations : ℕ) → iteratedRefusal relaxation iterations ≤ 10
+unfolding factorRefusal iterationsRefusal
+iterated-most relaxation iterations =
+    first-most (factorRefusal maxRelaxation relaxation) (iterationsRefusal iterations)
+    (cond-most (not (within maxRelaxation relaxation)) 8 0 (omega arith) (omega arith))
+    (tests-most (eqb iterations 0) (ltb maxIterations iterations) 8 (omega arith))
+
+pub job-most : (j : Job) → jobRefusal j ≤ 10
+unfolding jobRefusal
+job-most j =
+    let rest = firstRefusal (settings j) (lentRefusal (short j)) in
+    let src = j .source in
+    let dst = j .destination in
+    first-most (pictures j) rest
+    (pair-most (src .width) (src .height) (length (src .bytes)) (src .stride) (dst .len) (dst .width)
+    (dst .height) (dst .stride))
+    (first-most (settings j) (lentRefusal (short j)) (iterated-most (j .config .relaxation) (j .config .iterations))
+    (cond-most (short j) 10 0 (omega arith) (omega arith)))
 
 -- ---- the length of a plan
 
@@ -127,7 +179,8 @@ odd-taken nan L e = let z : _≡_ {A = ℕ} 0 1 = cc in absurd (omega arith)
 odd-taken (inf true) L e = let same : 3 ≡ L = cc in (omega arith, omega arith)
 odd-taken (inf false) L e = let z : _≡_ {A = ℕ} 0 1 = cc in absurd (omega arith)
 odd-taken (fin true m e′) L e = let same : 3 ≡ L = cc in (omega arith, omega arith)
-odd-taken (fin false m e′) L e = go (leb (m * up e′) (2 ^ 53 * down e′)) (oddOf (m * up e′) (down e′)) (oddOf-three (m * up e′) (down e′) (down-pos e′)) (oddOf-odd (m * up e′) (down e′) (down-pos e′)) e
+odd-taken (fin false m e′) L e = go (leb (m * up e′) (2 ^ 53 * down e′)) (oddOf (m * up e′) (down e′))
+    (oddOf-three (m * up e′) (down e′) (down-pos e′)) (oddOf-odd (m * up e′) (down e′) (down-pos e′)) e
   where
     go : (b : Bool) (n : ℕ) → 3 ≤ n → n % 2 ≡ 1 → cond b (Length n) Beyond ≡ Length L → (3 ≤ L) × (L % 2 ≡ 1)
     go true n h o e = let same : n ≡ L = cc in (omega arith, omega arith)
@@ -149,11 +202,14 @@ pub record Measured (width height : ℕ) (l : LineLength) (result : JobResult) :
   pub taken : LengthTaken width height (result .«blur_length»)
 
 module _ (width height : ℕ) (d : RasterDirection4) where
-  plan-odd : (estimate : Float) (o : OddLength) (result : JobResult) → oddLength estimate ≡ o → planOdd width height d estimate o ≡ Done result
+  plan-odd : (estimate : Float) (o : OddLength) (result : JobResult) → oddLength estimate ≡ o
+      → planOdd width height d estimate o ≡ accepts result
       → Measured width height (Found estimate) result
-  plan-odd estimate (Length L) result o e = go (ltb (2 * max width height + 1) L) refl e
+  plan-odd estimate (Length L) result o e = go (ltb (maxBlurLength width height) L) refl e
     where
-      go : (b : Bool) → ltb (2 * max width height + 1) L ≡ b → cond b (Refused 12) (Done (record { direction = d; «blur_length» = L; estimate = estimate })) ≡ Done result
+      go : (b : Bool) → ltb (maxBlurLength width height) L ≡ b
+          → cond b (refuses 12) (accepts (record { direction = d; «blur_length» = L; estimate = estimate }))
+          ≡ accepts result
           → Measured width height (Found estimate) result
       go true t e = let z : _≡_ {A = ℕ} 0 1 = cc in absurd (omega arith)
       go false t e =
@@ -163,75 +219,105 @@ module _ (width height : ℕ) (d : RasterDirection4) where
           (record {
             found = refl;
             rounded = o;
-            taken = record { least = taken .0; odd = taken .1; most = ltb-false (2 * max width height + 1) L t };
+            taken = record { least = taken .0; odd = taken .1; most = ltb-false (maxBlurLength width height) L t };
           })
   plan-odd estimate Beyond result o e = let z : _≡_ {A = ℕ} 0 1 = cc in absurd (omega arith)
 
   -- the tests of the code
   pub plan-12 : (estimate : Float) (L : ℕ) → oddLength estimate ≡ Length L → 2 * width + 1 < L → 2 * height + 1 < L
-      → Refused 12 ≡ planOdd width height d estimate (oddLength estimate)
-  plan-12 estimate L e a b = rw (e, lt-ltb (2 * max width height + 1) L (omega arith))
+      → Refused 12 ≡ jobAnswer (planOdd width height d estimate (oddLength estimate))
+  plan-12 estimate L e a b = rw (e, lt-ltb (maxBlurLength width height) L (omega arith))
 
-  pub plan-beyond : (estimate : Float) → oddLength estimate ≡ Beyond → Refused 12 ≡ planOdd width height d estimate (oddLength estimate)
+  pub plan-beyond : (estimate : Float) → oddLength estimate ≡ Beyond
+      → Refused 12 ≡ jobAnswer (planOdd width height d estimate (oddLength estimate))
   plan-beyond estimate e = rw e
 
-  pub plan-fits : (estimate : Float) (L : ℕ) → oddLength estimate ≡ Length L → (L ≤ 2 * width + 1) ⊎ (L ≤ 2 * height + 1)
-      → Done (record { direction = d; «blur_length» = L; estimate = estimate }) ≡ planOdd width height d estimate (oddLength estimate)
-  plan-fits estimate L e (inl a) = rw (e, le-ltb (2 * max width height + 1) L (omega arith))
-  plan-fits estimate L e (inr b) = rw (e, le-ltb (2 * max width height + 1) L (omega arith))
+  pub plan-fits : (estimate : Float) (L : ℕ) → oddLength estimate ≡ Length L
+      → (L ≤ 2 * width + 1) ⊎ (L ≤ 2 * height + 1)
+      → Done (record { direction = d; «blur_length» = L; estimate = estimate })
+      ≡ jobAnswer (planOdd width height d estimate (oddLength estimate))
+  plan-fits estimate L e (inl a) = rw (e, le-ltb (maxBlurLength width height) L (omega arith))
+  plan-fits estimate L e (inr b) = rw (e, le-ltb (maxBlurLength width height) L (omega arith))
 
-  plan-along : (l : LineLength) (result : JobResult) → planLength width height d l ≡ Done result → Measured width height l result
+  plan-along : (l : LineLength) (result : JobResult) → planLength width height d l ≡ accepts result
+      → Measured width height l result
   plan-along (Found estimate) result e = plan-odd estimate (oddLength estimate) result refl e
   plan-along Nothing result e = let z : _≡_ {A = ℕ} 0 1 = cc in absurd (omega arith)
 
-  pub plan-refused : (n : ℕ) (l : LineLength) → (n ≡ 0 → ⊥) → Refused n ≡ planFrom n width height d l
-  plan-refused zero l some = absurd (some refl)
-  plan-refused (suc n) l some = refl
+  pub plan-refused : (n : ℕ) (l : LineLength) → (n ≡ 0 → ⊥)
+      → Refused n ≡ jobAnswer (unless n (planLength width height d l))
+  plan-refused n l some = sym (ap jobAnswer (unless-refuses n (planLength width height d l) some))
 
-  pub plan-found : {n : ℕ} {m : LengthAnswer} {l : LineLength} {estimate : Float} {answer : JobAnswer} → n ≡ 0 → m ≡ answered.Length l → l ≡ Found estimate
-      → answer ≡ planOdd width height d estimate (oddLength estimate) → answer ≡ planFrom n width height d (lengthIn m)
+  pub plan-found : {n : ℕ} {m : LengthAnswer} {l : LineLength} {estimate : Float} {answer : JobAnswer} → n ≡ 0
+      → m ≡ answered.Length l → l ≡ Found estimate
+      → answer ≡ jobAnswer (planOdd width height d estimate (oddLength estimate))
+      → answer ≡ jobAnswer (unless n (planLength width height d (lengthIn m)))
   plan-found e f g is = rw (e, f, g) is
 
-  pub plan-from-done : (n : ℕ) (l : LineLength) (result : JobResult) → planFrom n width height d l ≡ Done result → (n ≡ 0) × Measured width height l result
-  plan-from-done zero l result e = (refl, plan-along l result e)
-  plan-from-done (suc n) l result e = let z : _≡_ {A = ℕ} 0 1 = cc in absurd (omega arith)
+  pub plan-from-done : (n : ℕ) (l : LineLength) (result : JobResult)
+      → unless n (planLength width height d l) ≡ accepts result
+      → (n ≡ 0) × Measured width height l result
+  plan-from-done n l result e =
+      let a = unless-accepts n (planLength width height d l) result e in
+      (a .0, plan-along l result (a .1))
 
 -- ---- 11 and 12 come after all others
 
 module _ (width height : ℕ) (d : RasterDirection4) (number : ℕ) where
-  late-odd : (estimate : Float) (o : OddLength) → planOdd width height d estimate o ≡ Refused number → number ≡ 12
-  late-odd estimate (Length L) e = go (ltb (2 * max width height + 1) L) e
+  late-odd : (estimate : Float) (o : OddLength) → planOdd width height d estimate o ≡ refuses number → number ≡ 12
+  late-odd estimate (Length L) e = go (ltb (maxBlurLength width height) L) e
     where
-      go : (b : Bool) → cond b (Refused 12) (Done (record { direction = d; «blur_length» = L; estimate = estimate })) ≡ Refused number → number ≡ 12
+      go : (b : Bool)
+          → cond {A = Decision JobResult} b (refuses 12)
+          (accepts (record { direction = d; «blur_length» = L; estimate = estimate })) ≡ refuses number
+          → number ≡ 12
       go true e = let same : 12 ≡ number = cc in sym same
       go false e = let z : _≡_ {A = ℕ} 0 1 = cc in absurd (omega arith)
   late-odd estimate Beyond e = let same : 12 ≡ number = cc in sym same
 
-  late-length : (l : LineLength) → planLength width height d l ≡ Refused number → (number ≡ 11) ⊎ (number ≡ 12)
+  late-length : (l : LineLength) → planLength width height d l ≡ refuses number → (number ≡ 11) ⊎ (number ≡ 12)
   late-length (Found estimate) e = inr (late-odd estimate (oddLength estimate) e)
   late-length Nothing e = let same : 11 ≡ number = cc in inl (sym same)
 
-pub plan-late : (j : Job) {number : ℕ} → jobRefusal j ≡ 0 → plan j ≡ Refused number → (number ≡ 11) ⊎ (number ≡ 12)
+pub plan-late : (j : Job) {number : ℕ} → jobRefusal j ≡ 0 → plan j ≡ refuses number → (number ≡ 11) ⊎ (number ≡ 12)
 unfolding plan
 plan-late j {number} none e =
-    late-length (j .width) (j .height) (jobDirection j) number (jobLength j)
-    (sym (ap (λ (n : ℕ). planFrom n (j .width) (j .height) (jobDirection j) (jobLength j)) none) ∙ e)
+    let next = planLength (j .source .width) (j .source .height) (jobDirection j) (jobLength j) in
+    late-length (j .source .width) (j .source .height) (jobDirection j) number (jobLength j)
+    (sym (ap (λ (n : ℕ). unless n next) none) ∙ e)
+
+-- so that scratch is kept where one of 1 to 10 is given, and only there
+pub plan-leaves : (j : Job) {number : ℕ} → plan j ≡ refuses number → KeepsScratch number → jobRefusal j ≡ 0 → ⊥
+plan-leaves j e leaves none = ⊎-elim (leaves .not-11) (leaves .not-12) (plan-late j none e)
+
+pub plan-early : (j : Job) → (jobRefusal j ≡ 0 → ⊥) → (plan j ≡ refuses (jobRefusal j)) × KeepsScratch (jobRefusal j)
+unfolding plan
+plan-early j some =
+    let most = job-most j in (
+      unless-refuses (jobRefusal j) _ some,
+      record { not-11 = λ z. omega arith; not-12 = λ z. omega arith },
+    )
 
 -- ---- an accepted plan
 
-module _ (j : Job) {result : JobResult} (e : plan j ≡ Done result) where
-  plan-done : (jobRefusal j ≡ 0) × Measured (j .width) (j .height) (jobLength j) result
+module _ (j : Job) {result : JobResult} (e : plan j ≡ accepts result) where
+  plan-done : (jobRefusal j ≡ 0) × Measured (j .source .width) (j .source .height) (jobLength j) result
   unfolding plan
-  plan-done = plan-from-done (j .width) (j .height) (jobDirection j) (jobRefusal j) (jobLength j) result e
+  plan-done =
+      plan-from-done (j .source .width) (j .source .height) (jobDirection j) (jobRefusal j) (jobLength j) result e
 
   pub plan-accepted : JobAccepted j
   plan-accepted = job-accepted j (plan-done .0)
 
-  pub plan-length : LengthTaken (j .width) (j .height) (result .«blur_length»)
+  pub plan-length : LengthTaken (j .source .width) (j .source .height) (result .«blur_length»)
   plan-length = plan-done .1 .taken
 
   pub plan-estimate : Positive binary64 (result .estimate)
   plan-estimate =
       let m = plan-done .1 in
-      let a = length-above (j .source) (j .width) (j .height) (j .stride) (jobDirection j) (j .config .«minimum_transitions») (j .config .«minimum_amplitude») (result .estimate) (m .found) in
+      let s = j .source in
+      let a =
+      length-above (s .bytes) (s .width) (s .height) (s .stride) (jobDirection j) (j .config .«minimum_transitions»)
+      (j .config .«minimum_amplitude») (result .estimate) (m .found)
+      in
       record { above = odd-finite (result .estimate) (result .«blur_length») (m .rounded) (a .above); holds = a .holds }

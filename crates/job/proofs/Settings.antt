@@ -1,24 +1,22 @@
--- The restoration of a job at its plan's direction and blur length: its settings are taken (`settings-settled`), and its estimates are those of the plan (`settings-estimate`).
+-- The estimate call of a job's plan: its settings are taken (`estimate-taken`), and its estimates are those of the plan
+-- (`estimate-planned`).
 use mathlib.Core.Bool.{true}
-use mathlib.Core.List.{List}
-use mathlib.Core.Path.{_≡_, refl, ap, _∙_}
+use mathlib.Core.Path.{_≡_, refl, ap}
 use Prim.Native.Nat.{ℕ, _≤_}
 use native.Mathlib.Omega.{arith}
 use lib.Ieee.{ofBits}
 use lib.Ieee.Scale.{finite}
-use Rattle.floats.specs.Factor.{roundedQ16}
-use Rattle.image.specs.Picture.{pixel}
+use Rattle.image.specs.Call.{Gray8}
 use Rattle.raster.specs.Direction.{angleOf, snaps}
 use Rattle.raster.specs.declared.direction.RasterDirection4.{RasterDirection4}
 use Rattle.raster.specs.declared.direction.RasterDirection4.the-variants.{Horizontal, DownRight, Vertical, DownLeft}
-use Rattle.deblur.specs.Calls.{estimateOf}
-use Rattle.deblur.specs.Picture.{estimate}
-use Rattle.deblur.specs.Refusal.{Settled}
-use Rattle.deblur.specs.Settings.{restorationOf}
-use Rattle.deblur.proofs.PictureLaws.{estimate-of-is}
+use Rattle.deblur.specs.Calls.{lastEstimate}
+use Rattle.deblur.specs.Refusal.{LengthTaken}
+use Rattle.deblur.proofs.Refusals.{first-0, line-0, iterated-0}
 use Rattle.job.specs.declared.JobConfig.{JobConfig}
 use Rattle.job.specs.declared.JobResult.{JobResult}
-use Rattle.job.specs.Job.{restorationConfig, jobEstimate, Runnable, LengthTaken}
+use Rattle.job.specs.Demands.{estimateFilter}
+use Rattle.job.specs.Job.{Layout, jobEstimate, Runnable}
 
 angle-finite : (d : RasterDirection4) → finite (angleOf d) ≡ true
 unfolding ofBits
@@ -28,23 +26,16 @@ angle-finite Vertical = refl
 angle-finite DownLeft = refl
 
 module _ (config : JobConfig) (result : JobResult) (k : ℕ) where
-  pub settings-settled : {len width height stride dstLen dstWidth dstHeight dstStride scratchLen : ℕ}
-      → Runnable len width height stride dstLen dstWidth dstHeight dstStride config scratchLen → LengthTaken width height (result .«blur_length»)
-      → 1 ≤ k → k ≤ config .iterations → Settled width height (restorationOf (restorationConfig config result k))
-  settings-settled a l least most =
-      let iterations = a .iterations-most in
-      record {
-        length-least = l .least;
-        length-odd = l .odd;
-        length-most = l .most;
-        angle-finite = angle-finite (result .direction);
-        iterations-least = least;
-        iterations-most = omega arith;
-        factor-taken = a .relaxation-taken;
-      }
+  pub estimate-taken : {src : Gray8} {dst : Layout} {scratchLen : ℕ} → Runnable src dst config scratchLen
+      → LengthTaken (src .width) (src .height) (result .«blur_length») → 1 ≤ k → k ≤ config .iterations
+      → estimateFilter config result k .refusal (src .width) (src .height) ≡ 0
+  estimate-taken {src} a l least most =
+      let limit = a .iterations-taken .most in
+      first-0 (line-0 (src .width) (src .height) (angleOf (result .direction)) l (angle-finite (result .direction)))
+      (iterated-0 (config .relaxation) k (a .relaxation-taken) (record { least = least; most = omega arith }))
 
-  pub settings-estimate : (source : List ℕ) (width height stride c r : ℕ)
-      → estimateOf source width height stride (restorationOf (restorationConfig config result k)) c r ≡ jobEstimate source width height stride config result k c r
-  settings-estimate source width height stride c r =
-      estimate-of-is source width height stride (restorationOf (restorationConfig config result k)) c r
-      ∙ ap (λ (d : RasterDirection4). estimate (pixel source stride) d width height (config .border) (result .«blur_length») (roundedQ16 (config .relaxation)) k c r) (snaps (result .direction))
+  pub estimate-planned : (src : Gray8) (c r : ℕ) → let f = estimateFilter config result k in
+      lastEstimate src (f .kernel) (f .direction) c r ≡ jobEstimate src config result k c r
+  estimate-planned src c r =
+      let f = estimateFilter config result k in
+      ap (λ (d : RasterDirection4). lastEstimate src (f .kernel) d c r) (snaps (result .direction))

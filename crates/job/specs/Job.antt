@@ -1,12 +1,13 @@
--- The whole job (document 01, "Whole job and exact run"): "Direction from the picture, then length along it, rounded to the smallest odd whole number that is at least 3
--- and at least the estimate, then restoration." `plan` is what a job answers; `Restored` is the contract's fact.
-use Prim.Native.Nat.{ℕ, zero, suc, _+_, _*_, _%_, _≤_, max}
-use mathlib.Core.Bool.{Bool, true, not, cond, _||_}
+-- The whole job (document 01, "Whole job and exact run"): "Direction from the picture, then length along it, rounded to
+-- the smallest odd whole number that is at least 3 and at least the estimate, then restoration." `plan` is what a job
+-- comes to; `Restored` is the contract's fact.
+use Prim.Native.Nat.{ℕ, _*_, _≤_}
+use mathlib.Core.Bool.{Bool, true, cond, _||_}
 use mathlib.Core.List.{List}
 use mathlib.Core.Path.{_≡_}
-use lib.Dec.{eqb, ltb}
+use lib.Dec.{ltb}
 use lib.IntN.{ℤ}
-use lib.Ieee.{Float, binary64, ofBits}
+use lib.Ieee.{Float}
 use lib.ListN.{length}
 use Rattle.numbers.specs.Scalar.{clampByte}
 use Rattle.numbers.specs.Written.{Painted}
@@ -14,172 +15,170 @@ use Rattle.floats.specs.Factor.{within, roundedQ16}
 use Rattle.floats.specs.Odd.{oddLength}
 use Rattle.floats.specs.declared.OddLength.{OddLength}
 use Rattle.floats.specs.declared.OddLength.the-variants.{Length, Beyond}
+use Rattle.image.specs.Call.{Gray8, Decision, accepts, refuses, unless, Outcome}
 use Rattle.image.specs.Picture.{pixel}
 use Rattle.image.specs.Refusal.{pairRefusal, LaidPair}
-use Rattle.raster.specs.Direction.{angleOf}
 use Rattle.raster.specs.declared.border.LineBorderMode.the-variants.{Replicate}
 use Rattle.raster.specs.declared.direction.RasterDirection4.{RasterDirection4}
-use Rattle.blur.specs.Length.{lengthAlong}
+use Rattle.blur.specs.Length.{defaults, lengthAlong}
 use Rattle.tensor.specs.Tensor.{tensorSums, estimateOf}
 use Rattle.blur.specs.declared.length.LineLength.{LineLength}
 use Rattle.blur.specs.declared.length.LineLength.the-variants.{Found, Nothing}
 use Rattle.swings.specs.declared.Swing.{Swing}
+use Rattle.line.specs.declared.kernel.LineKernel.{LineKernel}
 use Rattle.deblur.specs.Picture.{estimate}
-use Rattle.deblur.specs.Refusal.{factorTaken, scratchShort, inOrder}
-use Rattle.deblur.specs.declared.LineFilter.the-variants.{Restoration}
-use Rattle.deblur.specs.declared.VanCittertConfig.{VanCittertConfig}
+use Rattle.deblur.specs.Refusal.{
+  maxBlurLength,
+  maxRelaxation,
+  scratchNeeded,
+  iteratedRefusal,
+  scratchShort,
+  inOrder,
+  IterationsTaken,
+}
+use Rattle.deblur.specs.Settings.{defaultIterations, defaultRelaxation, lineKernel}
 use Rattle.job.specs.declared.JobConfig.{JobConfig}
 use Rattle.job.specs.declared.JobResult.{JobResult}
 use Rattle.job.specs.declared.JobAnswer.{JobAnswer}
 use Rattle.job.specs.declared.JobAnswer.the-variants.{Done, Refused}
 
--- the arguments: source, destination layout, settings, and how much scratch of both kinds is lent
-pub record Job : Type 0 where
-  pub source : List ℕ
+-- how a picture lies in a slice of so many bytes
+pub record Layout : Type 0 where
+  pub len : ℕ
   pub width : ℕ
   pub height : ℕ
   pub stride : ℕ
-  pub dst-len : ℕ
-  pub dst-width : ℕ
-  pub dst-height : ℕ
-  pub dst-stride : ℕ
+
+abbrev pub layout : ℕ → ℕ → ℕ → ℕ → Layout
+layout len width height stride = record { len = len; width = width; height = height; stride = stride }
+
+abbrev pub layoutOf : Gray8 → Layout
+layoutOf p = layout (length (p .bytes)) (p .width) (p .height) (p .stride)
+
+-- the arguments: source, destination layout, settings, and how much scratch of both kinds is lent
+pub record Job : Type 0 where
+  pub source : Gray8
+  pub destination : Layout
   pub config : JobConfig
   pub scratch-len : ℕ
   pub swings-len : ℕ
 
--- "Whole-job settings are thresholds, iterations, relaxation and border." The defaults are those of the length and of the restoration.
+abbrev pub jobOf : Gray8 → Layout → JobConfig → ℕ → ℕ → Job
+jobOf src dst config scratchLen swingsLen =
+    record { source = src; destination = dst; config = config; scratch-len = scratchLen; swings-len = swingsLen }
+
+-- "Whole-job settings are thresholds, iterations, relaxation and border." The defaults are those of the length and of
+-- the restoration.
 unfoldable pub jobDefault : JobConfig
 jobDefault =
     record {
-      «minimum_transitions» = 8;
-      «minimum_amplitude» = 24;
-      iterations = 3;
-      relaxation = ofBits binary64 0x3ff0_0000_0000_0000;
+      «minimum_transitions» = defaults .«minimum_transitions»;
+      «minimum_amplitude» = defaults .«minimum_amplitude»;
+      iterations = defaultIterations;
+      relaxation = defaultRelaxation;
       border = Replicate;
     }
 
--- ---- "Refusals, first match wins": 1 to 6 of the pictures, 8 and 9 of the settings, 10 of what is lent. 0 is no refusal.
+-- ---- "Refusals, first match wins": 1 to 6 of the pictures, 8 and 9 of the settings, 10 of what is lent. 0 is no
+-- refusal.
 
--- 8 iterations are 0, or relaxation is not finite or outside 0..1; 9 iterations exceed 22
-unfoldable pub settingsRefusal : ℕ → Float → ℕ
-settingsRefusal iterations relaxation =
-    cond (eqb iterations 0 || not (factorTaken (Restoration relaxation))) 8
-    (cond (ltb 22 iterations) 9 0)
-
--- 10 scratch is shorter than 3 × width × height i32, or than width × height swing records: "both kinds for the whole job"
+-- 10 scratch is shorter than 3 × width × height i32, or than width × height swing records: "both kinds for the whole
+-- job"
 abbrev pub lentShort : ℕ → ℕ → ℕ → ℕ → Bool
 lentShort width height scratchLen swingsLen = scratchShort width height scratchLen || ltb swingsLen (width * height)
 
+-- of both pictures
+abbrev pub picturesRefusal : Gray8 → Layout → ℕ
+picturesRefusal src dst =
+    pairRefusal (length (src .bytes)) (src .width) (src .height) (src .stride) (dst .len) (dst .width) (dst .height)
+    (dst .stride)
+
 unfoldable pub jobRefusal : Job → ℕ
 jobRefusal j =
-    inOrder (pairRefusal (length (j .source)) (j .width) (j .height) (j .stride) (j .dst-len) (j .dst-width) (j .dst-height) (j .dst-stride))
-    (settingsRefusal (j .config .iterations) (j .config .relaxation))
-    (lentShort (j .width) (j .height) (j .scratch-len) (j .swings-len))
+    inOrder (picturesRefusal (j .source) (j .destination))
+    (iteratedRefusal (j .config .relaxation) (j .config .iterations))
+    (lentShort (j .source .width) (j .source .height) (j .scratch-len) (j .swings-len))
 
--- ---- the plan: what the job answers
+-- ---- the plan: what a job comes to
 
 -- "Direction from the picture"
-unfoldable pub pictureDirection : List ℕ → ℕ → ℕ → ℕ → RasterDirection4
-pictureDirection source width height stride = estimateOf width height (tensorSums (pixel source stride) width height) .direction
+unfoldable pub pictureDirection : Gray8 → RasterDirection4
+pictureDirection src =
+    estimateOf (src .width) (src .height)
+    (tensorSums (pixel (src .bytes) (src .stride)) (src .width) (src .height)) .direction
 
--- ".. rounded to the smallest odd whole number that is at least 3 and at least the estimate"; 12 it exceeds 2 × max(width, height) + 1
-abbrev pub planOdd : ℕ → ℕ → RasterDirection4 → Float → OddLength → JobAnswer
+-- ".. rounded to the smallest odd whole number that is at least 3 and at least the estimate"; 12 it exceeds
+-- 2 × max(width, height) + 1
+abbrev pub planOdd : ℕ → ℕ → RasterDirection4 → Float → OddLength → Decision JobResult
 planOdd width height d estimate (Length L) =
-    cond (ltb (2 * max width height + 1) L) (Refused 12) (Done (record { direction = d; «blur_length» = L; estimate = estimate }))
-planOdd width height d estimate Beyond = Refused 12
+    cond (ltb (maxBlurLength width height) L) (refuses 12)
+    (accepts (record { direction = d; «blur_length» = L; estimate = estimate }))
+planOdd width height d estimate Beyond = refuses 12
 
 -- 11 the length answer is Nothing
-abbrev pub planLength : ℕ → ℕ → RasterDirection4 → LineLength → JobAnswer
+abbrev pub planLength : ℕ → ℕ → RasterDirection4 → LineLength → Decision JobResult
 planLength width height d (Found estimate) = planOdd width height d estimate (oddLength estimate)
-planLength width height d Nothing = Refused 11
-
--- the refusal so far, or what the direction and the length along it give
-abbrev pub planFrom : ℕ → ℕ → ℕ → RasterDirection4 → LineLength → JobAnswer
-planFrom zero width height d l = planLength width height d l
-planFrom (suc number) width height d l = Refused (suc number)
+planLength width height d Nothing = refuses 11
 
 abbrev pub jobDirection : Job → RasterDirection4
-jobDirection j = pictureDirection (j .source) (j .width) (j .height) (j .stride)
+jobDirection j = pictureDirection (j .source)
 
 -- "then length along it"
 abbrev pub jobLength : Job → LineLength
 jobLength j =
-    lengthAlong (j .source) (j .width) (j .height) (j .stride) (jobDirection j) (j .config .«minimum_transitions») (j .config .«minimum_amplitude»)
+    lengthAlong (j .source .bytes) (j .source .width) (j .source .height) (j .source .stride) (jobDirection j)
+    (j .config .«minimum_transitions») (j .config .«minimum_amplitude»)
 
-unfoldable pub plan : Job → JobAnswer
-plan j = planFrom (jobRefusal j) (j .width) (j .height) (jobDirection j) (jobLength j)
+unfoldable pub plan : Job → Decision JobResult
+plan j = unless (jobRefusal j) (planLength (j .source .width) (j .source .height) (jobDirection j) (jobLength j))
+
+abbrev pub jobAnswer : Decision JobResult → JobAnswer
+jobAnswer (accepts result) = Done result
+jobAnswer (refuses number) = Refused number
+
+-- an answer's decision
+abbrev pub jobDecided : JobAnswer → Decision JobResult
+jobDecided (Done result) = accepts result
+jobDecided (Refused number) = refuses number
 
 -- ---- the restoration
 
--- its settings for k iterations: the direction and the blur length are the plan's, and the direction goes by an angle that snaps to it
-abbrev pub restorationConfig : JobConfig → JobResult → ℕ → VanCittertConfig
-restorationConfig config result k =
-    record {
-      «theta_radians» = angleOf (result .direction);
-      «blur_length» = result .«blur_length»;
-      iterations = k;
-      relaxation = config .relaxation;
-      border = config .border;
-    }
+-- what is done on each line
+abbrev pub jobKernel : JobConfig → JobResult → LineKernel
+jobKernel config result = lineKernel (result .«blur_length») (config .relaxation) (config .iterations) (config .border)
 
 -- the estimate after k iterations, at the pixel (c, r)
-abbrev pub jobEstimate : List ℕ → ℕ → ℕ → ℕ → JobConfig → JobResult → ℕ → ℕ → ℕ → ℤ
-jobEstimate source width height stride config result k c r =
-    estimate (pixel source stride) (result .direction) width height (config .border) (result .«blur_length») (roundedQ16 (config .relaxation)) k c r
+abbrev pub jobEstimate : Gray8 → JobConfig → JobResult → ℕ → ℕ → ℕ → ℤ
+jobEstimate src config result k c r =
+    estimate (pixel (src .bytes) (src .stride)) (result .direction) (src .width) (src .height) (config .border)
+    (result .«blur_length») (roundedQ16 (config .relaxation)) k c r
 
--- each pixel is the last estimate there, cut to 0..255; a refusal leaves the destination as it was
-abbrev pub Destination : List ℕ → ℕ → ℕ → ℕ → ℕ → JobConfig → JobAnswer → List ℕ → List ℕ → Type 0
-Destination source width height stride dstStride config (Done result) old new =
-    Painted 0 (λ c r. clampByte (jobEstimate source width height stride config result (config .iterations) c r)) width height dstStride old new
-Destination source width height stride dstStride config (Refused number) old new = new ≡ old
+-- each pixel is the last estimate there, cut to 0..255
+abbrev pub jobWrites : Gray8 → ℕ → JobConfig → JobResult → List ℕ → List ℕ → Type 0
+jobWrites src dstStride config result old new =
+    Painted 0 (λ c r. clampByte (jobEstimate src config result (config .iterations) c r)) (src .width) (src .height)
+    dstStride old new
 
--- ---- what a job answers and leaves
-
--- "A refusal returns its number and changes neither destination nor scratch, except that 11 and 12 leave scratch free." Scratch after an accepted call is free.
-pub record JobOutcome (j : Job) (old new : List ℕ) (scratch scratch′ : List ℤ) (swings swings′ : List Swing) (answer : JobAnswer) : Type 0 where
-  pub answered : answer ≡ plan j
-  pub destination : Destination (j .source) (j .width) (j .height) (j .stride) (j .dst-stride) (j .config) (plan j) old new
-  pub scratch-kept : (jobRefusal j ≡ 0 → ⊥) → scratch′ ≡ scratch
-  pub swings-kept : (jobRefusal j ≡ 0 → ⊥) → swings′ ≡ swings
-
-abbrev pub jobOf : List ℕ → ℕ → ℕ → ℕ → ℕ → ℕ → ℕ → ℕ → JobConfig → ℕ → ℕ → Job
-jobOf source width height stride dstLen dstWidth dstHeight dstStride config scratchLen swingsLen =
-    record {
-      source = source;
-      width = width;
-      height = height;
-      stride = stride;
-      dst-len = dstLen;
-      dst-width = dstWidth;
-      dst-height = dstHeight;
-      dst-stride = dstStride;
-      config = config;
-      scratch-len = scratchLen;
-      swings-len = swingsLen;
-    }
-
-abbrev pub Restored : List ℕ → ℕ → ℕ → ℕ → List ℕ → List ℕ → ℕ → ℕ → ℕ → JobConfig → List ℤ → List ℤ → List Swing → List Swing → JobAnswer → Type 0
-Restored source width height stride old new dstWidth dstHeight dstStride config scratch scratch′ swings swings′ answer =
-    JobOutcome (jobOf source width height stride (length old) dstWidth dstHeight dstStride config (length scratch) (length swings))
-    old new scratch scratch′ swings swings′ answer
+-- what a job answers and leaves; both kinds of scratch go together
+abbrev pub Restored : Gray8 → Gray8 → List ℕ → JobConfig → List ℤ → List ℤ → List Swing
+    → List Swing → JobAnswer → Type 0
+Restored src dst new config scratch scratch′ swings swings′ answer =
+    Outcome {S = List ℤ × List Swing} (plan (jobOf src (layoutOf dst) config (length scratch) (length swings)))
+    jobAnswer
+    (jobWrites src (dst .stride) config) (dst .bytes) new (scratch, swings) (scratch′, swings′) answer
 
 -- ---- accepted jobs
 
 -- what the restoration of an accepted job has
-pub record Runnable (len width height stride dstLen dstWidth dstHeight dstStride : ℕ) (config : JobConfig) (scratchLen : ℕ) : Type 0 where
-  pub pictures : LaidPair len width height stride dstLen dstWidth dstHeight dstStride
-  pub iterations-least : 1 ≤ config .iterations
-  pub iterations-most : config .iterations ≤ 22
-  pub relaxation-taken : within 1 (config .relaxation) ≡ true
-  pub scratch-least : 3 * (width * height) ≤ scratchLen
+pub record Runnable (src : Gray8) (dst : Layout) (config : JobConfig) (scratchLen : ℕ) : Type 0 where
+  pub pictures : LaidPair (length (src .bytes)) (src .width) (src .height) (src .stride) (dst .len)
+      (dst .width) (dst .height)
+      (dst .stride)
+  pub iterations-taken : IterationsTaken (config .iterations)
+  pub relaxation-taken : within maxRelaxation (config .relaxation) ≡ true
+  pub scratch-least : scratchNeeded (src .width) (src .height) ≤ scratchLen
 
 -- `jobRefusal` is 0 exactly there.
 pub record JobAccepted (j : Job) : Type 0 where
-  pub runnable : Runnable (length (j .source)) (j .width) (j .height) (j .stride) (j .dst-len) (j .dst-width) (j .dst-height) (j .dst-stride) (j .config) (j .scratch-len)
-  pub swings-least : j .width * j .height ≤ j .swings-len
-
--- the blur lengths that a plan has
-pub record LengthTaken (width height L : ℕ) : Type 0 where
-  pub least : 3 ≤ L
-  pub odd : L % 2 ≡ 1
-  pub most : L ≤ 2 * max width height + 1
+  pub runnable : Runnable (j .source) (j .destination) (j .config) (j .scratch-len)
+  pub swings-least : j .source .width * j .source .height ≤ j .swings-len

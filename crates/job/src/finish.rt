@@ -1,15 +1,16 @@
 // The end of a job: its answer, and the restoration of one that is accepted.
 ghost use mathlib.Core.Path.{_≡_};
 ghost use lib.ListN.{length};
-ghost use Rattle.job.specs.Job.{Runnable};
+ghost use Rattle.image.specs.Call.{gray8};
+ghost use Rattle.job.specs.Job.{layout, Runnable};
 ghost use Rattle.job.specs.Parts.{lengthIn, Finished};
 use crate::JobAnswer;
 use crate::JobConfig;
 use crate::plan::JobStart;
 use crate::plan::plan_job;
-use crate::plan::restoration_config;
 use blur::length::LengthAnswer;
-use deblur::van_cittert_line_into;
+use deblur::kernel::line_kernel;
+use deblur::kernel::restore_along;
 
 // The answer that start and length give, and the destination painted where it is accepted.
 pub(crate) fn finish(
@@ -26,22 +27,33 @@ pub(crate) fn finish(
     measured: LengthAnswer,
     scratch: &mut [i32],
 ) -> JobAnswer
-    requires { ⌜ (start .refusal ≡ 0 → Runnable (length (now «data»)) width height stride (length (now dst)) «dst_width» «dst_height» «dst_stride» config (length (now scratch))) ⌝ }
-    ensures { λ r. ⌜ Finished (start .refusal) (start .direction) (lengthIn measured) (now («data» .entry)) width height stride «dst_stride» config (now (dst .entry)) (now (dst .exit)) (now (scratch .entry)) (now (scratch .exit)) r ⌝ }
+    requires { ⌜ (start .refusal ≡ 0 → Runnable (gray8 (now «data») width height stride)
+        (layout (length (now dst)) «dst_width» «dst_height» «dst_stride») config (length (now scratch))) ⌝ }
+    ensures { λ r. ⌜ Finished (start .refusal) (start .direction) (lengthIn measured)
+        (gray8 (now («data» .entry)) width height stride)
+        (gray8 (now (dst .entry)) «dst_width» «dst_height» «dst_stride») (now (dst .exit)) config (now (scratch .entry))
+        (now (scratch .exit)) r ⌝ }
 {
     let answer = plan_job(start, width, height, measured);
     match answer {
         JobAnswer::Done(result) => {
-            van_cittert_line_into(
+            let direction = result.direction;
+            let border = config.border;
+            let kernel = line_kernel(
+                result.blur_length,
+                config.relaxation,
+                config.iterations,
+                border,
+            );
+            restore_along(
                 data,
                 width,
                 height,
                 stride,
                 dst,
-                dst_width,
-                dst_height,
                 dst_stride,
-                restoration_config(config, result),
+                direction,
+                kernel,
                 scratch,
             );
             JobAnswer::Done(result)

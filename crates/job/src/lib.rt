@@ -1,9 +1,12 @@
 // The whole job: direction, length and restoration of one picture.
 ghost use mathlib.Core.Path.{_≡_};
+ghost use Rattle.image.specs.Call.{gray8};
 ghost use Rattle.job.specs.Job.{jobDefault, Restored};
 use crate::finish::finish;
 use crate::plan::start_job;
+use blur::length::LineLengthConfig;
 use blur::length::estimate_along;
+use deblur::VanCittertConfig;
 use raster::border::LineBorderMode;
 use raster::direction::RasterDirection4;
 use swings::Swing;
@@ -42,10 +45,10 @@ impl JobConfig {
         ensures { λ r. ⌜ r ≡ jobDefault ⌝ }
     {
         JobConfig {
-            minimum_transitions: 8,
-            minimum_amplitude: 24,
-            iterations: 3,
-            relaxation: 1.0,
+            minimum_transitions: LineLengthConfig::MINIMUM_TRANSITIONS,
+            minimum_amplitude: LineLengthConfig::MINIMUM_AMPLITUDE,
+            iterations: VanCittertConfig::DEFAULT_ITERATIONS,
+            relaxation: VanCittertConfig::DEFAULT_RELAXATION,
             border: LineBorderMode::Replicate,
         }
     }
@@ -66,8 +69,10 @@ pub fn restore(
     scratch: &mut [i32],
     swings: &mut [Swing],
 ) -> JobAnswer
-    ensures { λ r. ⌜ Restored (now («data» .entry)) width height stride (now (dst .entry)) (now (dst .exit)) «dst_width» «dst_height» «dst_stride» config
-        (now (scratch .entry)) (now (scratch .exit)) (now (swings .entry)) (now (swings .exit)) r ⌝ }
+    ensures { λ r. ⌜ Restored (gray8 (now («data» .entry)) width height stride)
+        (gray8 (now (dst .entry)) «dst_width» «dst_height» «dst_stride»)
+        (now (dst .exit)) config (now (scratch .entry)) (now (scratch .exit)) (now (swings .entry))
+        (now (swings .exit)) r ⌝ }
 {
     let start = start_job(
         data,

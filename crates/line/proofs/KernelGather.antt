@@ -1,5 +1,5 @@
--- Lines in a list that is being filled: what a part holds stays under a store elsewhere (`filled-other`), and grows by one (`filled-next`); the bytes of a
--- line lie within the data (`byte-within`).
+-- Lines in a list that is being filled: what a part holds stays under a store elsewhere (`filled-other`), and grows by
+-- one (`filled-next`); the bytes of a line lie within the data (`byte-within`).
 use mathlib.Core.Path.{_≡_, _∙_}
 use mathlib.Core.List.{List}
 use Prim.Native.Nat.{ℕ, _+_, _-_, _*_, _<_}

@@ -1,5 +1,5 @@
--- One step of the estimate: in the machine, for q = 65,536 (`whole-`) and for any q (`cut-`), over plain numbers; and along a line in the scratch, sample
--- after sample (`stepped-`).
+-- One step of the estimate: in the machine, for q = 65,536 (`whole-`) and for any q (`cut-`), over plain numbers; and
+-- along a line in the scratch, sample after sample (`stepped-`).
 use mathlib.Core.Path.{_≡_, refl, sym, ap, ap₂, _∙_}
 use mathlib.Core.List.{List}
 use Prim.Native.Nat.{ℕ, _+_, _≤_, _<_}
@@ -17,14 +17,22 @@ use Rattle.numbers.proofs.Int.Order.{pos-≤ℤ}
 use Rattle.numbers.proofs.Int.Size.{natAbs-sub, natAbs-mul, sfits-size}
 use Rattle.numbers.proofs.Places.{part-before, part-after, part-none, part-next}
 use Rattle.numbers.proofs.Written.{written-none, written-set, written-kept}
-use Rattle.line.specs.Kernel.{lineAt, stepFrom, SampleStep, StepAsked, LineStepped}
+use Rattle.line.specs.Iteration.{stepFrom}
+use Rattle.line.specs.Kernel.{lineAt, SampleStepAsked, StepAsked, LineStepped}
 
 -- ---- relaxation 1, in 32 bits
 
 step-whole : (b m y : ℤ) → stepFrom 65536 b m y ≡ y +ℤ (b -ℤ m)
-step-whole b m y = ap (λ (z : ℤ). y +ℤ quotZ z (pos 65536)) (*ℤ-comm (b -ℤ m) (pos 65536)) ∙ ap (y +ℤ_) (quot-exact (zero-lt-suc 65535) (b -ℤ m))
+step-whole b m y =
+    ap (λ (z : ℤ). y +ℤ quotZ z (pos 65536)) (*ℤ-comm (b -ℤ m) (pos 65536))
+    ∙ ap (y +ℤ_) (quot-exact (zero-lt-suc 65535) (b -ℤ m))
 
-module _ {y b m : ℤ} {q : ℕ} (fy : SFits w32 y) (fb : SFits w32 b) (fm : SFits w32 m) (S : SampleStep y b m q) (one : q ≡ 65536) where
+-- the sum as it stands in the machine
+abbrev wholeIn : ℤ → ℤ → ℤ → ℤ
+wholeIn b m y = toZ w32 (ofZ w32 y) +ℤ toZ w32 (ofZ w32 (toZ w32 (ofZ w32 b) -ℤ toZ w32 (ofZ w32 m)))
+
+module _ {y b m : ℤ} {q : ℕ} (fy : SFits w32 y) (fb : SFits w32 b) (fm : SFits w32 m) (S : SampleStepAsked y b m q)
+    (one : q ≡ 65536) where
   whole-residual : toZ w32 (ofZ w32 b) -ℤ toZ w32 (ofZ w32 m) ≡ b -ℤ m
   whole-residual = ap₂ _-ℤ_ (toZ-ofZ fb) (toZ-ofZ fm)
 
@@ -34,18 +42,25 @@ module _ {y b m : ℤ} {q : ℕ} (fy : SFits w32 y) (fb : SFits w32 b) (fm : SFi
   pub whole-subs : SFits w32 (toZ w32 (ofZ w32 b) -ℤ toZ w32 (ofZ w32 m))
   whole-subs = fits-as whole-residual whole-size
 
-  whole-sum : toZ w32 (ofZ w32 y) +ℤ toZ w32 (ofZ w32 (toZ w32 (ofZ w32 b) -ℤ toZ w32 (ofZ w32 m))) ≡ stepFrom q b m y
-  whole-sum = ap₂ _+ℤ_ (toZ-ofZ fy) (held whole-residual whole-size) ∙ sym (step-whole b m y) ∙ ap (λ (k : ℕ). stepFrom k b m y) (sym one)
+  whole-sum : wholeIn b m y ≡ stepFrom q b m y
+  whole-sum =
+      ap₂ _+ℤ_ (toZ-ofZ fy) (held whole-residual whole-size)
+      ∙ sym (step-whole b m y)
+      ∙ ap (λ (k : ℕ). stepFrom k b m y) (sym one)
 
-  pub whole-adds : SFits w32 (toZ w32 (ofZ w32 y) +ℤ toZ w32 (ofZ w32 (toZ w32 (ofZ w32 b) -ℤ toZ w32 (ofZ w32 m))))
+  pub whole-adds : SFits w32 (wholeIn b m y)
   whole-adds = fits-as whole-sum (sfits-size (S .fits))
 
-  pub whole-is : toZ w32 (ofZ w32 (toZ w32 (ofZ w32 y) +ℤ toZ w32 (ofZ w32 (toZ w32 (ofZ w32 b) -ℤ toZ w32 (ofZ w32 m))))) ≡ stepFrom q b m y
+  pub whole-is : toZ w32 (ofZ w32 (wholeIn b m y)) ≡ stepFrom q b m y
   whole-is = held whole-sum (sfits-size (S .fits))
 
 -- ---- any q, in 64 bits; xb, xm and xy as they stand in the machine
 
-module _ {xb xm xy b m y : ℤ} {q : ℕ} (S : SampleStep y b m q) (eb : xb ≡ b) (em : xm ≡ m) (ey : xy ≡ y) where
+-- the quotient there
+abbrev quotientIn : ℕ → ℤ → ℤ → ℤ
+quotientIn q xb xm = quotZ (toZ w64 (ofZ w64 (toZ w64 (ofZ w64 (xb -ℤ xm)) *ℤ toZ w64 q))) (pos 65536)
+
+module _ {xb xm xy b m y : ℤ} {q : ℕ} (S : SampleStepAsked y b m q) (eb : xb ≡ b) (em : xm ≡ m) (ey : xy ≡ y) where
   residual : xb -ℤ xm ≡ b -ℤ m
   residual = ap₂ _-ℤ_ eb em
 
@@ -67,25 +82,25 @@ module _ {xb xm xy b m y : ℤ} {q : ℕ} (S : SampleStep y b m q) (eb : xb ≡ 
   pub cut-muls : SFits w64 (toZ w64 (ofZ w64 (xb -ℤ xm)) *ℤ toZ w64 q)
   cut-muls = fits-as product product-fits
 
-  quotient : quotZ (toZ w64 (ofZ w64 (toZ w64 (ofZ w64 (xb -ℤ xm)) *ℤ toZ w64 q))) (pos 65536) ≡ quotZ ((b -ℤ m) *ℤ pos q) (pos 65536)
+  quotient : quotientIn q xb xm ≡ quotZ ((b -ℤ m) *ℤ pos q) (pos 65536)
   quotient = ap (λ (z : ℤ). quotZ z (pos 65536)) (held product product-fits)
 
   quotient-fits : SFits w64 (quotZ ((b -ℤ m) *ℤ pos q) (pos 65536))
   quotient-fits = sfits-quot (pos-≤ℤ (omega arith)) product-fits
 
-  pub cut-divides : (0 < 65536) × SFits w64 (quotZ (toZ w64 (ofZ w64 (toZ w64 (ofZ w64 (xb -ℤ xm)) *ℤ toZ w64 q))) (pos 65536))
+  pub cut-divides : (0 < 65536) × SFits w64 (quotientIn q xb xm)
   cut-divides = (omega arith, fits-as quotient quotient-fits)
 
-  sum : xy +ℤ toZ w64 (ofZ w64 (quotZ (toZ w64 (ofZ w64 (toZ w64 (ofZ w64 (xb -ℤ xm)) *ℤ toZ w64 q))) (pos 65536))) ≡ stepFrom q b m y
+  sum : xy +ℤ toZ w64 (ofZ w64 (quotientIn q xb xm)) ≡ stepFrom q b m y
   sum = ap₂ _+ℤ_ ey (held quotient quotient-fits)
 
   sum-fits : SFits w64 (stepFrom q b m y)
   sum-fits = sfits-size (omega (arith, S .fits))
 
-  pub cut-adds : SFits w64 (xy +ℤ toZ w64 (ofZ w64 (quotZ (toZ w64 (ofZ w64 (toZ w64 (ofZ w64 (xb -ℤ xm)) *ℤ toZ w64 q))) (pos 65536))))
+  pub cut-adds : SFits w64 (xy +ℤ toZ w64 (ofZ w64 (quotientIn q xb xm)))
   cut-adds = fits-as sum sum-fits
 
-  pub cut-is : toZ w64 (ofZ w64 (xy +ℤ toZ w64 (ofZ w64 (quotZ (toZ w64 (ofZ w64 (toZ w64 (ofZ w64 (xb -ℤ xm)) *ℤ toZ w64 q))) (pos 65536))))) ≡ stepFrom q b m y
+  pub cut-is : toZ w64 (ofZ w64 (xy +ℤ toZ w64 (ofZ w64 (quotientIn q xb xm)))) ≡ stepFrom q b m y
   cut-is = held sum sum-fits
 
 -- ---- along a line
@@ -99,17 +114,19 @@ module _ {n q : ℕ} {old : List ℤ} (A : StepAsked n q old) where
     estimate-kept = written-kept (L .written) (n + k) (part-after n k (n + k) (omega arith))
 
     pub observed-kept : getD new k (pos 0) ≡ lineAt 0 old k
-    observed-kept = written-kept (L .written) k (part-before n k k h) ∙ ap (λ (i : ℕ). getD old i (pos 0)) (sym (zero-add k))
+    observed-kept =
+        written-kept (L .written) k (part-before n k k h) ∙ ap (λ (i : ℕ). getD old i (pos 0)) (sym (zero-add k))
 
     pub mean-kept : lineAt (n + n) new k ≡ lineAt (n + n) old k
     mean-kept = written-kept (L .written) (n + n + k) (part-after n k (n + n + k) (omega arith))
 
     -- what the step of sample k asks, of the values as they are read
-    pub step-asked : {y b m : ℤ} → y ≡ lineAt n new k → b ≡ getD new k (pos 0) → m ≡ lineAt (n + n) new k → SampleStep y b m q
+    pub step-asked : {y b m : ℤ} → y ≡ lineAt n new k → b ≡ getD new k (pos 0) → m ≡ lineAt (n + n) new k
+        → SampleStepAsked y b m q
     step-asked d e f = rw (d ∙ estimate-kept, e ∙ observed-kept, f ∙ mean-kept) (A .each k h)
 
-    pub stepped-next : (v : ℤ) {y b m : ℤ} → y ≡ lineAt n new k → b ≡ getD new k (pos 0) → m ≡ lineAt (n + n) new k → v ≡ stepFrom q b m y
-        → LineStepped n (k + 1) q old (set new (n + k) v)
+    pub stepped-next : (v : ℤ) {y b m : ℤ} → y ≡ lineAt n new k → b ≡ getD new k (pos 0) → m ≡ lineAt (n + n) new k
+        → v ≡ stepFrom q b m y → LineStepped n (k + 1) q old (set new (n + k) v)
     stepped-next v d e f g =
         record {
           written =

@@ -1,12 +1,16 @@
 -- The laws of `line`, by subject.
+pub mod IterationLaws
+pub mod LineLaws
+pub mod LineWindow
+pub mod NearIteration
+pub mod NearLine
+pub mod NearCut
 pub mod BorderByte
+pub mod BorderShape
 pub mod Examples
 pub mod KernelFirst
 pub mod KernelGather
 pub mod KernelMean
-pub mod KernelRestore
+pub mod KernelIteration
 pub mod KernelStep
 pub mod KernelSum
-pub mod LineLaws
-pub mod LineSame
-pub mod LineWithin

@@ -1,16 +1,17 @@
--- What the restoration of one line asks and does (document 01, "Restoration and line unsharp"). A line's scratch has three parts of n:
--- the observed samples B at 0..n, the estimate Yk at n..2n, the mean of Yk at 2n..3n.
+-- What the restoration of one line asks and does (document 01, "Restoration and line unsharp"). A line's scratch has
+-- three parts of n: the observed samples B at 0..n, the estimate Yk at n..2n, the mean of Yk at 2n..3n.
 use mathlib.Core.Path.{_≡_}
 use mathlib.Core.List.{List}
 use Prim.Native.Nat.{ℕ, zero, suc, _+_, _-_, _*_, _/_, _≤_, _<_}
-use lib.IntN.{ℤ, pos, natAbs, subℕ, _+ℤ_, _-ℤ_, _*ℤ_}
+use lib.IntN.{ℤ, pos, negsuc, natAbs, subℕ, _+ℤ_}
 use lib.ListN.{length, getD}
-use lib.Signed.{quotZ}
 use Rattle.numbers.specs.Sum.{total}
 use Rattle.numbers.specs.Written.{Written, part}
 use Rattle.raster.specs.Border.{borderMap, borderValue}
+use Rattle.raster.specs.declared.border.BorderSample.{BorderSample}
 use Rattle.line.specs.declared.kernel.LineKernel.{LineKernel}
-use Rattle.line.specs.declared.kernel.MeanSettings.{MeanSettings}
+use Rattle.line.specs.declared.mean.MeanSettings.{MeanSettings}
+use Rattle.line.specs.Iteration.{stepFrom}
 use Rattle.line.specs.Line.{sample, window, mean, after}
 
 -- ---- one line
@@ -22,8 +23,8 @@ pub record LineLaid (dataLen start step n scratchLen : ℕ) : Type 0 where
   pub reached : start + (n - 1) * step < dataLen
   pub room : 3 * n ≤ scratchLen
 
--- The settings that the calls accept: a length up to 2,049 and at most 22 iterations; a relaxation is at most 1, a gain at most 8 and of one
--- iteration.
+-- The settings that the calls accept: a length up to 2,049 and at most 22 iterations; a relaxation is at most 1, a gain
+-- at most 8 and of one iteration.
 pub record KernelTaken (k : LineKernel) : Type 0 where
   pub long : 1 ≤ k .«blur_length»
   pub bounded : k .«blur_length» ≤ 2049
@@ -39,20 +40,41 @@ bytesOn bytes start step i = pos (getD bytes (start + i * step) 0)
 abbrev pub lineAt : ℕ → List ℤ → ℕ → ℤ
 lineAt a scratch i = getD scratch (a + i) (pos 0)
 
+-- the estimate after k iterations from the observed samples b, on a line of n
+abbrev pub estimateAfter : LineKernel → ℕ → (ℕ → ℤ) → ℕ → ℕ → ℤ
+estimateAfter K n b k = after (borderMap (K .border) n) b (K .q) (K .«blur_length») k
+
 -- the estimate part holds the last estimate
 abbrev pub LineRestored : List ℕ → ℕ → ℕ → ℕ → LineKernel → List ℤ → Type 0
-LineRestored bytes start step n k scratch =
-    (i : ℕ) → i < n → lineAt n scratch i ≡ after (borderMap (k .border) n) (bytesOn bytes start step) (k .q) (k .«blur_length») (k .iterations) i
+LineRestored bytes start step n K scratch =
+    (i : ℕ) → i < n → lineAt n scratch i ≡ estimateAfter K n (bytesOn bytes start step) (K .iterations) i
 
--- ---- its parts
+-- ---- its parts: gathering, and one iteration
 
 -- observed samples and estimate both hold f
 pub record Gathered (f : ℕ → ℤ) (n : ℕ) (scratch : List ℤ) : Type 0 where
   pub observed : (i : ℕ) → i < n → lineAt 0 scratch i ≡ f i
   pub estimate : (i : ℕ) → i < n → lineAt n scratch i ≡ f i
 
--- How large an estimate may be. Division by L is a multiplication by its reciprocal r (in units of 2^-42), right for samples up to 2^18; r = 0 stands
--- for a division, and 255 × (2^22 − 1) for what 21 iterations give.
+-- the scratch holds the observed samples b and the estimate after k iterations
+pub record Iterated (K : LineKernel) (n : ℕ) (b : ℕ → ℤ) (k : ℕ) (scratch : List ℤ) : Type 0 where
+  pub observed : (i : ℕ) → i < n → lineAt 0 scratch i ≡ b i
+  pub estimate : (i : ℕ) → i < n → lineAt n scratch i ≡ estimateAfter K n b k i
+
+-- what iteration k + 1 asks: the observed samples are bytes, and the estimate is the one after k iterations from them
+pub record IterationAsked (K : LineKernel) (n k : ℕ) (scratch : List ℤ) : Type 0 where
+  pub some : 1 ≤ n
+  pub short : n ≤ 1024
+  pub room : 3 * n ≤ length scratch
+  pub taken : KernelTaken K
+  pub more : k < K .iterations
+  pub bytes : (i : ℕ) → i < n → natAbs (lineAt 0 scratch i) ≤ 255
+  pub iterated : Iterated K n (lineAt 0 scratch) k scratch
+
+-- ---- the mean
+
+-- How large an estimate may be. Division by L is a multiplication by its reciprocal r (in units of 2^-42), right for
+-- samples up to 2^18; r = 0 stands for a division, and 255 × (2^22 − 1) for what 21 iterations give.
 abbrev pub largest : ℕ → ℕ
 largest zero = 1069547265
 largest (suc r) = 262144
@@ -71,25 +93,41 @@ pub record MeanAsked (s : MeanSettings) (scratch : List ℤ) : Type 0 where
   pub divides : Reciprocal (s .«blur_length») (s .reciprocal)
   pub small : (i : ℕ) → i < s .n → natAbs (lineAt (s .n) scratch i) ≤ largest (s .reciprocal)
 
+-- the border map of its line
+abbrev pub mapOf : MeanSettings → ℤ → BorderSample
+mapOf s = borderMap (s .border) (s .n)
+
 -- the window of the estimate at place p
 abbrev pub windowAt : MeanSettings → List ℤ → ℕ → ℤ
-windowAt s scratch p = window (borderMap (s .border) (s .n)) (lineAt (s .n) scratch) (s .«blur_length») p
+windowAt s scratch = window (mapOf s) (s .«blur_length») (lineAt (s .n) scratch)
+
+-- the sample of the estimate at the place u − L/2
+abbrev pub sampleAt : MeanSettings → List ℤ → ℕ → ℤ
+sampleAt s scratch u = sample (mapOf s) (lineAt (s .n) scratch) (subℕ u (s .«blur_length» / 2))
 
 -- the sum of the first u samples of the window at place 0
 abbrev pub opening : MeanSettings → List ℤ → ℕ → ℤ
-opening s scratch u = total (λ v. sample (borderMap (s .border) (s .n)) (lineAt (s .n) scratch) (subℕ v (s .«blur_length» / 2))) 0 u
+opening s scratch u = total (sampleAt s scratch) 0 u
+
+-- a border map of a line of n that has one sample before the line, and one behind it
+pub record FlatBorder (n : ℕ) (m : ℤ → BorderSample) : Type 0 where
+  pub before : (k : ℕ) → m (negsuc k) ≡ m (negsuc 0)
+  pub behind : (k : ℕ) → n ≤ k → m (pos k) ≡ m (pos n)
+
+-- a border map that comes again after that many places
+pub record PeriodicBorder (period : ℕ) (m : ℤ → BorderSample) : Type 0 where
+  pub some : 1 ≤ period
+  pub again : (p : ℤ) → m (p +ℤ pos period) ≡ m p
 
 -- the means from place a to place e (not included) are written
 pub record MeansWritten (s : MeanSettings) (a e : ℕ) (old new : List ℤ) : Type 0 where
-  pub written :
-      Written (pos 0) (part (s .n + s .n + a) (e - a)) (λ j. mean (borderMap (s .border) (s .n)) (lineAt (s .n) old) (s .«blur_length») (j - (s .n + s .n))) old new
+  pub written : Written (pos 0) (part (s .n + s .n + a) (e - a))
+      (λ j. mean (mapOf s) (lineAt (s .n) old) (s .«blur_length») (j - (s .n + s .n))) old new
 
--- one step from y, with the observed b and the mean m
-abbrev pub stepFrom : ℕ → ℤ → ℤ → ℤ → ℤ
-stepFrom q b m y = y +ℤ quotZ ((b -ℤ m) *ℤ pos q) (pos 65536)
+-- ---- the step
 
 -- what the step of one sample asks: a byte, a mean of at most 21 iterations, and a result that fits
-pub record SampleStep (y b m : ℤ) (q : ℕ) : Type 0 where
+pub record SampleStepAsked (y b m : ℤ) (q : ℕ) : Type 0 where
   pub byte : natAbs b ≤ 255
   pub small : natAbs m ≤ 1069547265
   pub gain : q ≤ 524288
@@ -99,8 +137,9 @@ pub record SampleStep (y b m : ℤ) (q : ℕ) : Type 0 where
 pub record StepAsked (n q : ℕ) (scratch : List ℤ) : Type 0 where
   pub short : n ≤ 1024
   pub room : 3 * n ≤ length scratch
-  pub each : (i : ℕ) → i < n → SampleStep (lineAt n scratch i) (lineAt 0 scratch i) (lineAt (n + n) scratch i) q
+  pub each : (i : ℕ) → i < n → SampleStepAsked (lineAt n scratch i) (lineAt 0 scratch i) (lineAt (n + n) scratch i) q
 
 -- the first k samples of the estimate have gone one step
 pub record LineStepped (n k q : ℕ) (old new : List ℤ) : Type 0 where
-  pub written : Written (pos 0) (part n k) (λ j. stepFrom q (lineAt 0 old (j - n)) (lineAt (n + n) old (j - n)) (lineAt n old (j - n))) old new
+  pub written : Written (pos 0) (part n k)
+      (λ j. stepFrom q (lineAt 0 old (j - n)) (lineAt (n + n) old (j - n)) (lineAt n old (j - n))) old new

@@ -1,33 +1,16 @@
--- Laws of lists that `lib.Seq` and `lib.ListN` lack. In order: a load's default; a load after a store, by a test; a part, n places from
--- a on; a list whose part has come back, `&mut s[a..e]` after the call; what holds of every element.
+-- Laws of lists that `lib.Seq` and `lib.ListN` lack. In order: a part, n places from a on; a list whose part has come
+-- back, `&mut s[a..e]` after the call; what holds of every element.
 --
--- Not here: `List·getD-eq-default`, a load past the end (`lib.ListN`); `same-len-mid`, `put-same`, `set-mid-at`, `take-put`, `drop-put`, of a
--- list whose part has come back (`borrow.Rule.Slice.PartMut`).
-use mathlib.Core.Path.{_≡_, refl, ap, _∙_}
-use mathlib.Core.Bool.{cond}
-use mathlib.Core.List.{List, [], _∷_, _++_}
-use Prim.Native.Nat.{ℕ, zero, suc, _+_, _-_, _≤_, _<_}
-use native.Mathlib.Nat.{not-suc-le-zero, le-of-suc-le-suc}
+-- Not here: `List·getD-eq-default`, a load past the end (`lib.ListN`); `same-len-mid`, `put-same`, `set-mid-at`,
+-- `take-put`, `drop-put`, of a list whose part has come back (`borrow.Rule.Slice.PartMut`).
+use mathlib.Core.Path.{_≡_, ap, _∙_}
+use mathlib.Core.List.{List, [], _++_}
+use Prim.Native.Nat.{ℕ, _+_, _-_, _≤_, _<_}
 use native.Mathlib.Omega.{arith}
-use borrow.Author.Tests.{eqb-true, eqb-false}
-use lib.Dec.{eqb}
-use lib.ListN.{length, getD, set, take, drop, length-drop, length-set, List·getD-append}
-use lib.Seq.{getD-take, getD-drop, getD-append-add, getD-set-same, getD-set-other, length-take-le}
-use Rattle.numbers.proofs.Test.{by-test}
+use lib.ListN.{length, getD, take, drop, length-drop, List·getD-append}
+use lib.Seq.{getD-take, getD-drop, getD-append-add, length-take-le}
 
 module _ {ℓ} {A : Type ℓ} where
-  -- within the list the default plays no part
-  pub getD-default : (l : List A) {i : ℕ} (d e : A) → i < length l → getD l i d ≡ getD l i e
-  getD-default [] d e h = absurd (not-suc-le-zero h)
-  getD-default (x ∷ xs) {i = zero} d e h = refl
-  getD-default (x ∷ xs) {i = suc i} d e h = getD-default xs d e (le-of-suc-le-suc h)
-
-  pub getD-set : (l : List A) (i j : ℕ) (a d : A) → i < length l → getD (set l i a) j d ≡ cond (eqb j i) a (getD l j d)
-  getD-set l i j a d h =
-      by-test (eqb j i)
-      (λ e. rw (e, eqb-true j i e) (getD-set-same l i a d h))
-      (λ e. rw e (getD-set-other l i j a d (eqb-false j i e)))
-
   -- ---- a part
 
   pub getD-part : (a n : ℕ) (l : List A) (i : ℕ) (d : A) → i < n → getD (take n (drop a l)) i d ≡ getD l (a + i) d
@@ -69,12 +52,5 @@ module _ {ℓ} {A : Type ℓ} where
 -- ---- what holds of every element of l
 
 module _ {ℓ κ} {A : Type ℓ} (P : A → Type κ) (d : A) (l : List A) (each : (j : ℕ) → j < length l → P (getD l j d)) where
-  pub each-set : (i : ℕ) (a : A) → P a → (j : ℕ) → j < length (set l i a) → P (getD (set l i a) j d)
-  each-set i a p j b =
-      let c : j < length l = rw length-set at b in
-      by-test (eqb j i)
-      (λ e. let q : j ≡ i = eqb-true j i e in rw (q, getD-set-same l i a d (rw q at c)) p)
-      (λ e. rw (getD-set-other l i j a d (eqb-false j i e)) (each j c))
-
   pub each-part : (a n : ℕ) → a + n ≤ length l → (i : ℕ) → i < n → P (getD (take n (drop a l)) i d)
   each-part a n h i b = rw (getD-part a n l i d b) (each (a + i) (omega arith))

@@ -1,23 +1,22 @@
--- Laws of ℕ that pictures need and that `native.Mathlib.Nat`, `lib.Arith` and `lib.Pow` lack. In order: products; division by a
--- variable, also by a multiplication; a place by its row and its column, y * s + x with x < s; odd lengths; powers of two.
+-- Laws of ℕ that pictures need and that `native.Mathlib.Nat`, `lib.Arith` and `lib.Pow` lack. In order: products;
+-- division by a variable, also by a multiplication; a place by its row and its column, y * s + x with x < s; parity;
+-- powers of two.
 --
--- Not here: `digits-div`, `digits-mod`, `digits-lt` (`lib.Arith`); `div-add-mod'`, `mul-le-mul`, `div-lt-iff-lt-mul`, `le-div-iff-mul-le`,
--- `two-pow-succ` (`native.Mathlib.Nat`); `min`, `max`, and `/` and `%` by a numeral, all of which `omega` reads.
+-- Not here: `digits-div`, `digits-mod`, `digits-lt` (`lib.Arith`); `div-add-mod'`, `mul-le-mul`, `div-lt-iff-lt-mul`,
+-- `le-div-iff-mul-le`, `two-pow-succ` (`native.Mathlib.Nat`); `min`, `max`, and `/` and `%` by a numeral, all of which
+-- `omega` reads.
 use mathlib.Core.Path.{_≡_, sym, ap, _∙_}
-use mathlib.Core.Logic.{_↔_, _⊎_, inl, inr, ⊎-elim}
+use mathlib.Core.Logic.{_⊎_, inl, inr, ⊎-elim}
 use Prim.Native.Nat.{ℕ, zero, suc, _+_, _-_, _*_, _/_, _%_, _^_, _≤_, _<_}
-use native.Mathlib.Nat.{le-refl, le-trans, le-of-lt, zero-lt-suc, add-mul, mul-add, one-mul, mul-one, mul-zero, mul-assoc, mul-right-comm, mul-le-mul-left, mul-le-mul-right, mul-lt-mul-of-pos-right, lt-of-mul-lt-mul-right, le-mul-of-pos-right, mul-comm, div-zero, div-mul-le-self, div-eq-of-lt-le, div-lt-iff-lt-mul, lt-mul-div-succ, lt-div-mul-add, le-div-iff-mul-le, eq-zero-or-pos, two-pow-succ, mod-lt}
+use native.Mathlib.Nat.{le-refl, le-trans, le-of-lt, zero-lt-suc, add-mul, mul-add, one-mul, mul-one, mul-assoc}
+use native.Mathlib.Nat.{mul-right-comm, mul-le-mul-left, mul-le-mul-right, lt-of-mul-lt-mul-right, le-mul-of-pos-right}
+use native.Mathlib.Nat.{mul-comm, div-zero, div-mul-le-self, div-eq-of-lt-le, lt-mul-div-succ, lt-div-mul-add}
+use native.Mathlib.Nat.{le-div-iff-mul-le, eq-zero-or-pos, two-pow-succ, mod-lt}
 use native.Mathlib.Numerals.{add-one}
 use native.Mathlib.Omega.{arith}
 use lib.Arith.{digits-div, digits-mod}
 
 -- ---- products
-
-pub mul-lt-mul : {a b m n : ℕ} → a < m → b < n → a * b < m * n
-mul-lt-mul {a} {b} {m} {n} p q =
-    let e : a * b ≤ a * n = mul-le-mul-left a (omega arith) in
-    let f : a * n < m * n = mul-lt-mul-of-pos-right p (omega arith) in
-    omega arith
 
 pub le-mul-of-pos-left : {m : ℕ} (n : ℕ) → 0 < m → n ≤ m * n
 le-mul-of-pos-left {m} n h = rw (mul-comm m n) (le-mul-of-pos-right n h)
@@ -29,37 +28,29 @@ add-one-mul y s = add-mul y 1 s ∙ ap (λ (k : ℕ). y * s + k) (one-mul s)
 
 pub div-mono : {a b : ℕ} (s : ℕ) → a ≤ b → a / s ≤ b / s
 div-mono {a} {b} s h =
-    ⊎-elim (λ (e : s ≡ 0). rw (e, div-zero a, div-zero b) (le-refl 0)) (λ (p : 0 < s). le-div-iff-mul-le p .1 (le-trans (div-mul-le-self a s) h)) (eq-zero-or-pos s)
-
-pub div-lt : {j : ℕ} (y s : ℕ) → j < y * s → j / s < y
-div-lt {j} y s h =
-    ⊎-elim (λ (e : s ≡ 0). let f : y * s ≡ 0 = rw e (mul-zero y) in omega arith) (λ (p : 0 < s). div-lt-iff-lt-mul p .1 h) (eq-zero-or-pos s)
+    ⊎-elim (λ (e : s ≡ 0). rw (e, div-zero a, div-zero b) (le-refl 0))
+    (λ (p : 0 < s). le-div-iff-mul-le p .1 (le-trans (div-mul-le-self a s) h)) (eq-zero-or-pos s)
 
 -- the quotient and the remainder are the only ones
 pub div-mod-unique : {j s x : ℕ} (y : ℕ) → j ≡ y * s + x → x < s → (j / s ≡ y) × (j % s ≡ x)
 div-mod-unique {s = s} y e h = (ap (λ (k : ℕ). k / s) e ∙ digits-div y h, ap (λ (k : ℕ). k % s) e ∙ digits-mod y h)
 
--- h steps of s and w more lie within n, by a test that multiplies nothing
-pub fits-iff : {s w n : ℕ} (h : ℕ) → 0 < s → w ≤ n → (h ≤ (n - w) / s) ↔ (h * s + w ≤ n)
-fits-iff {s} {w} {n} h p q = (
-  λ d. let e : h * s ≤ n - w = le-div-iff-mul-le p .0 d in omega arith,
-  λ d. le-div-iff-mul-le p .1 (omega arith),
-)
-
--- Division by L as a multiplication by the reciprocal m = s / L + 1 in units of 1 / s, which exceeds s / L by 1 at most: N / L ≤ N × m / s, and
--- N × m × L ≤ N × s + N × L < (N + 1) × s.
+-- Division by L as a multiplication by the reciprocal m = s / L + 1 in units of 1 / s, which exceeds s / L by 1 at
+-- most: N / L ≤ N × m / s, and N × m × L ≤ N × s + N × L < (N + 1) × s.
 pub div-by-mul : {s : ℕ} (n l : ℕ) → 0 < l → n * l < s → n / l ≡ n * (s / l + 1) / s
 div-by-mul {s} n l p h = sym (div-eq-of-lt-le s low high)
   where
     low : n / l * s ≤ n * (s / l + 1)
-    low = le-trans (mul-le-mul-left (n / l) (le-of-lt (lt-mul-div-succ s p))) (rw (← mul-assoc (n / l) l (s / l + 1)) (mul-le-mul-right (s / l + 1) (div-mul-le-self n l)))
+    low = le-trans (mul-le-mul-left (n / l) (le-of-lt (lt-mul-div-succ s p)))
+        (rw (← mul-assoc (n / l) l (s / l + 1)) (mul-le-mul-right (s / l + 1) (div-mul-le-self n l)))
 
     scaled : n * (s / l + 1) * l < (n / l + 1) * s * l
     scaled =
         let a : n * (s / l + 1) * l ≡ n * (s / l * l) + n * l = simp (mul-add, add-mul, mul-one, mul-assoc) in
         let b : n * (s / l * l) ≤ n * s = mul-le-mul-left n (div-mul-le-self s l) in
         let d : (n + 1) * s ≡ n * s + s = add-one-mul n s in
-        let e : (n + 1) * s ≤ (n / l + 1) * l * s = mul-le-mul-right s (omega (arith, add-one-mul (n / l) l, lt-div-mul-add {a = n} p)) in
+        let e : (n + 1) * s ≤ (n / l + 1) * l * s =
+        mul-le-mul-right s (omega (arith, add-one-mul (n / l) l, lt-div-mul-add {a = n} p)) in
         let f : (n / l + 1) * l * s ≡ (n / l + 1) * s * l = mul-right-comm (n / l + 1) l s in
         omega arith
 
@@ -68,20 +59,11 @@ div-by-mul {s} n l p h = sym (div-eq-of-lt-le s low high)
 
 -- ---- a place by its row and its column
 
-pub place-inj : {s x x′ : ℕ} (y y′ : ℕ) → x < s → x′ < s → y * s + x ≡ y′ * s + x′ → (y ≡ y′) × (x ≡ x′)
-place-inj {s} y y′ h h′ e =
-    let d = div-mod-unique y′ e h′ in
-    (sym (digits-div y h) ∙ d .0, sym (digits-mod y h) ∙ d .1)
-
 -- every place of a picture, w by h with stride s, lies before its end
 pub place-lt : {x y w h : ℕ} (s : ℕ) → x < w → y < h → y * s + x < (h - 1) * s + w
 place-lt {y = y} {h = h} s p q = let e : y * s ≤ (h - 1) * s = mul-le-mul-right s (omega arith) in omega arith
 
--- and so does every row's end
-pub row-end-le : {y h : ℕ} (s w : ℕ) → y < h → y * s + w ≤ (h - 1) * s + w
-row-end-le {y} {h} s w q = let e : y * s ≤ (h - 1) * s = mul-le-mul-right s (omega arith) in omega arith
-
--- ---- odd lengths
+-- ---- parity
 
 pub even-or-odd : (n : ℕ) → (n % 2 ≡ 0) ⊎ (n % 2 ≡ 1)
 even-or-odd n = go (n % 2) (mod-lt n (zero-lt-suc 1))
@@ -90,18 +72,7 @@ even-or-odd n = go (n % 2) (mod-lt n (zero-lt-suc 1))
     go zero h = inl (omega arith)
     go (suc r) h = inr (omega arith)
 
--- an odd length is a middle and as many on each side
-pub odd-is : (n : ℕ) → n % 2 ≡ 1 → n ≡ n / 2 + 1 + n / 2
-odd-is n h = omega arith
-
-pub odd-of-half : (k : ℕ) → (k + 1 + k) % 2 ≡ 1
-odd-of-half k = omega arith
-
 -- ---- powers of two
 
 pub two-pow-more : (k : ℕ) → 2 ^ (k + 1) ≡ 2 ^ k + 2 ^ k
 two-pow-more k = ap (λ (n : ℕ). 2 ^ n) (add-one k) ∙ two-pow-succ k
-
-pub lt-two-pow : (k : ℕ) → k < 2 ^ k
-lt-two-pow zero = zero-lt-suc 0
-lt-two-pow (suc k) = let h = lt-two-pow k in let e = two-pow-succ k in omega arith

@@ -1,17 +1,17 @@
--- Laws of the tests on places that a writing goes by (`Rattle.numbers.specs.Written`): each is what it says (`X-iff`), hits nothing at first (`X-none`), one place more (`X-next`), not yet (`X-after`).
--- The first n places, n places from a on, every s-th of them, the pixels of a picture row by row (`pixels-row`) or place by place (`below`), and a test within a part (`within`). Assumes nothing.
+-- Laws of the tests on places that a writing goes by (`Rattle.numbers.specs.Written`): each is what it says (`X-iff`),
+-- hits nothing at first (`X-none`), one place more (`X-next`). The first n places, n places from a on, every s-th of
+-- them, the pixels of a picture row by row (`pixels-row`), and a test within a part (`within`).
 use mathlib.Core.Path.{_≡_, refl, sym, ap, _∙_}
 use mathlib.Core.Bool.{Bool, true, false, _&&_, _||_, and-eq-true-iff}
 use mathlib.Core.List.{List, [], _∷_, map}
 use mathlib.Core.Logic.{_↔_, inl, inr, ⊎-elim}
 use Prim.Native.Nat.{ℕ, _+_, _-_, _*_, _/_, _%_, _≤_, _<_}
-use native.Mathlib.Nat.{add-assoc, add-sub-cancel-left, mul-div-cancel, div-zero, mod-zero, mul-zero, mul-le-mul-right, eq-of-mul-eq-mul-right, eq-zero-or-pos, div-add-mod', div-mul-le-self}
+use native.Mathlib.Nat.{div-zero, mod-zero, mul-zero, mul-le-mul-right, eq-zero-or-pos, div-add-mod', div-mul-le-self}
 use native.Mathlib.Omega.{arith}
 use borrow.Author.Tests.{ltb-true, ltb-false, leb-true, eqb-true, lt-ltb, le-leb, eq-eqb}
-use lib.Arith.{digits-div}
 use lib.Dec.{leb, ltb, eqb}
 use Rattle.numbers.specs.Written.{front, part, comb, pixels}
-use Rattle.numbers.proofs.Nat.{div-mod-unique, add-one-mul, div-lt}
+use Rattle.numbers.proofs.Nat.{div-mod-unique}
 use Rattle.numbers.proofs.Test.{by-test, false-of-not, bool-ext, or-ext, or-place}
 
 -- ---- the first n places
@@ -58,9 +58,21 @@ part-next a n j =
     (λ e. let b = part-iff a n j .0 e in part-iff a (n + 1) j .1 (omega arith))
     (λ e. part-iff a (n + 1) j .1 (omega arith))
 
--- what is written at the k-th of them, where a function f of k is
-pub part-at : {A : Type 0} (f : ℕ → A) (a k : ℕ) → f k ≡ f (a + k - a)
-part-at f a k = rw (add-sub-cancel-left a k)
+-- up to the place b, and it
+pub part-last : (a m b n : ℕ) → a + m ≡ b → m + 1 ≡ n → (j : ℕ) → part a n j ≡ (part a m j || eqb j b)
+part-last a m b n d e j = rw (← d, ← e) (part-next a m j)
+
+-- two parts, the second from the first's end on
+pub part-join : (a m b k n : ℕ) → a + m ≡ b → m + k ≡ n → (j : ℕ) → part a n j ≡ (part a m j || part b k j)
+part-join a m b k n d e j =
+    or-ext (part a n j) (part a m j) (part b k j)
+    (λ q.
+    let c = part-iff a n j .0 q in
+    by-test (ltb j b)
+    (λ l. let l′ = ltb-true j b l in inl (part-iff a m j .1 (omega arith)))
+    (λ l. let l′ = ltb-false j b l in inr (part-iff b k j .1 (omega arith))))
+    (λ q. let c = part-iff a m j .0 q in part-iff a n j .1 (omega arith))
+    (λ q. let c = part-iff b k j .0 q in part-iff a n j .1 (omega arith))
 
 -- ---- n places from a on, every s-th
 
@@ -71,7 +83,8 @@ comb-iff a s n j = (there, λ h. back (h .0) (h .1) (h .2))
     both : (leb a j && eqb ((j - a) % s) 0 ≡ true) ↔ ((leb a j ≡ true) × (eqb ((j - a) % s) 0 ≡ true))
     both = and-eq-true-iff (leb a j) (eqb ((j - a) % s) 0)
 
-    all : (leb a j && eqb ((j - a) % s) 0 && ltb ((j - a) / s) n ≡ true) ↔ ((leb a j && eqb ((j - a) % s) 0 ≡ true) × (ltb ((j - a) / s) n ≡ true))
+    all : (leb a j && eqb ((j - a) % s) 0 && ltb ((j - a) / s) n ≡ true) ↔
+        ((leb a j && eqb ((j - a) % s) 0 ≡ true) × (ltb ((j - a) / s) n ≡ true))
     all = and-eq-true-iff (leb a j && eqb ((j - a) % s) 0) (ltb ((j - a) / s) n)
 
     there : leb a j && eqb ((j - a) % s) 0 && ltb ((j - a) / s) n ≡ true → (k : ℕ) × (k < n) × (j ≡ a + k * s)
@@ -96,15 +109,6 @@ comb-iff a s n j = (there, λ h. back (h .0) (h .1) (h .2))
         tests (omega arith) (d .1) (rw (d .0) h))
         (eq-zero-or-pos s)
 
-pub comb-after : (a s n k : ℕ) → 0 < s → n ≤ k → comb a s n (a + k * s) ≡ false
-comb-after a s n k p h =
-    false-of-not (comb a s n (a + k * s)) λ e.
-    let b = comb-iff a s n (a + k * s) .0 e in
-    let l = b .1 in
-    let q : k * s ≡ b .0 * s = let i = b .2 in omega arith in
-    let r = eq-of-mul-eq-mul-right s p k (b .0) q in
-    omega arith
-
 pub comb-none : (a s j : ℕ) → comb a s 0 j ≡ false
 comb-none a s j = false-of-not (comb a s 0 j) λ e. let b = comb-iff a s 0 j .0 e .1 in omega arith
 
@@ -119,54 +123,13 @@ comb-next a s n j =
     (λ e. let b = comb-iff a s n j .0 e in let l = b .1 in comb-iff a s (n + 1) j .1 (b .0, omega arith, b .2))
     (λ e. comb-iff a s (n + 1) j .1 (n, omega arith, e))
 
--- what is written at the k-th of them, where a function f of k is
-pub comb-at : {A : Type 0} (f : ℕ → A) (a s k : ℕ) → 0 < s → f k ≡ f ((a + k * s - a) / s)
-comb-at f a s k h = rw (add-sub-cancel-left a (k * s), mul-div-cancel k h)
-
--- ---- the places of a test below m: how far a loop that goes through the places in order has come
-
-unfoldable pub below : (ℕ → Bool) → ℕ → ℕ → Bool
-below hit m j = hit j && ltb j m
-
-module _ (hit : ℕ → Bool) where
-  pub below-iff : (m j : ℕ) → (below hit m j ≡ true) ↔ ((hit j ≡ true) × (j < m))
-  unfolding below
-  below-iff m j = (
-    λ e. let b = and-eq-true-iff (hit j) (ltb j m) .0 e in (b .0, ltb-true j m (b .1)),
-    λ b. and-eq-true-iff (hit j) (ltb j m) .1 (b .0, lt-ltb j m (b .1)),
-  )
-
-  pub below-after : (m j : ℕ) → m ≤ j → below hit m j ≡ false
-  below-after m j h = false-of-not (below hit m j) λ e. let b = below-iff m j .0 e .1 in omega arith
-
-  pub below-none : (j : ℕ) → below hit 0 j ≡ false
-  below-none j = below-after 0 j (omega arith)
-
-  pub below-next : (m : ℕ) → hit m ≡ true → (j : ℕ) → below hit (m + 1) j ≡ (below hit m j || eqb j m)
-  below-next m at j =
-      or-place (below hit (m + 1) j) (below hit m j) m j
-      (λ e d. let b = below-iff (m + 1) j .0 e in let l = b .1 in below-iff m j .1 (b .0, omega arith))
-      (λ e. let b = below-iff m j .0 e in let l = b .1 in below-iff (m + 1) j .1 (b .0, omega arith))
-      (λ e. below-iff (m + 1) j .1 (rw e at, omega arith))
-
-  -- from m on, below n, no place is hit
-  pub below-skip : (m n : ℕ) → m ≤ n → ((j : ℕ) → hit j ≡ true → j < n → j < m) → (j : ℕ) → below hit n j ≡ below hit m j
-  below-skip m n h gap j =
-      bool-ext (below hit n j) (below hit m j)
-      (λ e. let b = below-iff n j .0 e in below-iff m j .1 (b .0, gap j (b .0) (b .1)))
-      (λ e. let b = below-iff m j .0 e in let l = b .1 in below-iff n j .1 (b .0, omega arith))
-
-  -- from m on no place is hit
-  pub below-whole : (m : ℕ) → ((j : ℕ) → hit j ≡ true → j < m) → (j : ℕ) → below hit m j ≡ hit j
-  below-whole m all j =
-      bool-ext (below hit m j) (hit j) (λ e. below-iff m j .0 e .0) (λ e. below-iff m j .1 (e, all j e))
-
 -- ---- the pixels of a picture, w by h with stride s
 
 pub pixels-iff : (w h s j : ℕ) → (pixels w h s j ≡ true) ↔ ((j % s < w) × (j / s < h))
 unfolding pixels
 pixels-iff w h s j = (
-  λ e. let b = and-eq-true-iff (ltb (j % s) w) (ltb (j / s) h) .0 e in (ltb-true (j % s) w (b .0), ltb-true (j / s) h (b .1)),
+  λ e. let b = and-eq-true-iff (ltb (j % s) w) (ltb (j / s) h) .0 e in
+      (ltb-true (j % s) w (b .0), ltb-true (j / s) h (b .1)),
   λ b. and-eq-true-iff (ltb (j % s) w) (ltb (j / s) h) .1 (lt-ltb (j % s) w (b .0), lt-ltb (j / s) h (b .1)),
 )
 
@@ -182,13 +145,6 @@ pixel-lt w h s y j e q =
     let b = pixels-iff w h s j .0 e in
     let m : j / s * s ≤ y * s = mul-le-mul-right s q in
     let d = div-add-mod' j s in
-    omega arith
-
-pub pixels-after : (w s x y : ℕ) → x < s → pixels w y s (y * s + x) ≡ false
-pixels-after w s x y h =
-    false-of-not (pixels w y s (y * s + x)) λ e.
-    let b = pixels-iff w y s (y * s + x) .0 e .1 in
-    let d = digits-div y h in
     omega arith
 
 pub pixels-none : (w s j : ℕ) → pixels w 0 s j ≡ false
@@ -213,34 +169,13 @@ pixels-row w s y h j =
     let d = div-mod-unique {j = j} {s = s} {x = j - y * s} y (omega arith) (omega arith) in
     pixels-iff w (y + 1) s j .1 (omega arith))
 
--- place by place: the next pixel of row y, from the end of row y to the next row, and past the last pixel
-pub pixels-step : (w h s x y : ℕ) → x < w → y < h → w ≤ s → (j : ℕ)
-    → below (pixels w h s) (y * s + (x + 1)) j ≡ (below (pixels w h s) (y * s + x) j || eqb j (y * s + x))
-pixels-step w h s x y p q r j =
-    ap (λ (m : ℕ). below (pixels w h s) m j) (sym (add-assoc (y * s) x 1))
-    ∙ below-next (pixels w h s) (y * s + x) (pixels-at w h s x y p q r) j
-
-pub pixels-next-row : (w h s y : ℕ) → w ≤ s → (j : ℕ) → below (pixels w h s) ((y + 1) * s) j ≡ below (pixels w h s) (y * s + w) j
-pixels-next-row w h s y b =
-    let m = add-one-mul y s in
-    below-skip (pixels w h s) (y * s + w) ((y + 1) * s) (omega arith) λ j e l.
-    let d = div-lt (y + 1) s l in
-    pixel-lt w h s y j e (omega arith)
-
-pub pixels-whole : (w h s m : ℕ) → (0 < h → (h - 1) * s + w ≤ m) → (j : ℕ) → below (pixels w h s) m j ≡ pixels w h s j
-pixels-whole w h s m f =
-    below-whole (pixels w h s) m λ j e.
-    let b = pixels-iff w h s j .0 e in
-    let l = pixel-lt w h s (h - 1) j e (omega arith) in
-    let k = f (omega arith) in
-    omega arith
-
 -- ---- a writing into a part, n places from a on, seen on the whole
 
 unfoldable pub within : ℕ → ℕ → (ℕ → Bool) → ℕ → Bool
 within a n hit j = part a n j && hit (j - a)
 
-pub within-iff : (a n : ℕ) (hit : ℕ → Bool) (j : ℕ) → (within a n hit j ≡ true) ↔ ((part a n j ≡ true) × (hit (j - a) ≡ true))
+pub within-iff : (a n : ℕ) (hit : ℕ → Bool) (j : ℕ)
+    → (within a n hit j ≡ true) ↔ ((part a n j ≡ true) × (hit (j - a) ≡ true))
 unfolding within
 within-iff a n hit j = and-eq-true-iff (part a n j) (hit (j - a))
 
@@ -258,10 +193,6 @@ within-same a n hit hit′ t inside j =
         let i : a + (j - a) ≡ j = omega arith in
         rw i at (t (j - a) (omega arith))
 
-pub within-all : (a n : ℕ) (hit : ℕ → Bool) → ((i : ℕ) → i < n → hit i ≡ true) → (j : ℕ) → part a n j ≡ within a n hit j
-within-all a n hit all =
-    within-same a n hit (part a n) (λ i b. part-iff a n (a + i) .1 (omega arith) ∙ sym (all i b)) (λ j e. e)
-
 pub within-front : (a n m : ℕ) → m ≤ n → (j : ℕ) → part a m j ≡ within a n (front m) j
 within-front a n m h =
     within-same a n (front m) (part a m)
@@ -271,7 +202,6 @@ within-front a n m h =
     (λ e. let c = front-iff m i .0 e in part-iff a m (a + i) .1 (omega arith)))
     (λ j e. let c = part-iff a m j .0 e in part-iff a n j .1 (omega arith))
 
--- `xs` with its part as the callee left it, `ys`
 -- ---- worked examples: the tests at the places 0 to 7
 
 places : List ℕ

@@ -1,14 +1,14 @@
--- Laws of the scalar functions' definitions: the cut to a byte, the sign; and the steps of `abs_i32` and `abs_i64`, once over the width.
+-- Laws of the scalar functions' definitions: the cut to a byte; and the steps of `abs_i64`, over any width.
 use mathlib.Core.Path.{_≡_, refl, _∙_, ap}
-use Prim.Native.Nat.{ℕ, zero, suc, _+_, _*_, _≤_, _<_, _^_}
+use Prim.Native.Nat.{zero, suc, _+_, _≤_, _<_, _^_}
 use native.Mathlib.Nat.{le-of-lt}
 use native.Mathlib.Omega.{arith}
-use lib.IntN.{ℤ, pos, negsuc, negℤ, natAbs, _+ℤ_, _-ℤ_, _*ℤ_, +ℤ-one}
+use lib.IntN.{ℤ, pos, negsuc, negℤ, natAbs, _+ℤ_, _-ℤ_, +ℤ-one}
 use lib.Signed.{_≤ℤ_, _<ℤ_}
 use mir.Syntax.{Width}
 use mir.Val.{SFits, hbits, toZ, ofZ}
 use mir.Facts.{toZ-ofZ}
-use Rattle.numbers.specs.Scalar.{clampByte, sign}
+use Rattle.numbers.specs.Scalar.{clampByte}
 use Rattle.numbers.proofs.Int.Linear.{linear}
 use Rattle.numbers.proofs.Int.Order.{negℤ-mono, suc-≤ℤ}
 use Rattle.numbers.proofs.Int.Size.{natAbs-neg, sfits-size, size-sfits}
@@ -31,30 +31,6 @@ clamp-within {z = negsuc n} h k = omega (arith, linear)
 pub clamp-≤ : (z : ℤ) → clampByte z ≤ 255
 clamp-≤ (pos n) = omega arith
 clamp-≤ (negsuc n) = omega arith
-
-pub clamp-mono : {a b : ℤ} → a ≤ℤ b → clampByte a ≤ clampByte b
-clamp-mono {a = pos m} {b = pos n} h = omega (arith, linear)
-clamp-mono {a = pos m} {b = negsuc n} h = omega (arith, linear)
-clamp-mono {a = negsuc m} {b} h = omega arith
-
--- ---- the sign
-
-pub sign-negative : {z : ℤ} → z <ℤ pos 0 → sign z ≡ negsuc 0
-sign-negative {z = pos n} h = omega (arith, linear)
-sign-negative {z = negsuc n} h = refl
-
-pub sign-positive : {z : ℤ} → pos 0 <ℤ z → sign z ≡ pos 1
-sign-positive {z = pos zero} h = omega (arith, linear)
-sign-positive {z = pos (suc n)} h = refl
-sign-positive {z = negsuc n} h = omega (arith, linear)
-
-pub sign-zero : {z : ℤ} → z ≡ pos 0 → sign z ≡ pos 0
-sign-zero e = ap sign e
-
-pub sign-natAbs : (z : ℤ) → sign z *ℤ pos (natAbs z) ≡ z
-sign-natAbs (pos zero) = refl
-sign-natAbs (pos (suc n)) = ap pos (omega arith)
-sign-natAbs (negsuc n) = ap (λ (m : ℕ). negℤ (pos m)) {x = 1 * suc n} {y = suc n} (omega arith)
 
 -- ---- the size, by way of v + 1 where v is negative: −v itself may not fit. As the machine has it, over any width
 module _ {w : Width} {v : ℤ} (f : SFits w v) (h : v <ℤ pos 0) where

@@ -1,8 +1,9 @@
--- Laws of the sums of specs/Sum: `total` (of integers, from a start) and `count` (of naturals, from 0). Ends, parts, terms changed or bounded,
--- sums of sums, multiples, constants, shifts. A pointwise premise asks only for the places that are summed.
+-- Laws of the sums of specs/Sum: `total` (of integers, from a start) and `count` (of naturals, from 0). Ends, parts,
+-- terms changed or bounded, sums of sums, multiples, constants, shifts. A pointwise premise asks only for the places
+-- that are summed.
 use mathlib.Core.Path.{_≡_, refl, sym, _∙_, ap, ap₂}
 use Prim.Native.Nat.{ℕ, zero, suc, _+_, _-_, _*_, _≤_, _<_, zero-le}
-use native.Mathlib.Nat.{add-zero, add-suc, add-le-add, le-refl, le-dest, suc-sub-suc, sub-zero}
+use native.Mathlib.Nat.{add-zero, add-suc, add-le-add, le-refl, suc-sub-suc, sub-zero}
 use native.Mathlib.Omega.{arith}
 use lib.IntN.{ℤ, pos, natAbs, negℤ, _+ℤ_, _-ℤ_, _*ℤ_, +ℤ-idl, +ℤ-idr, +ℤ-assoc, +ℤ-comm, negℤ-+ℤ, zero-*ℤ, *ℤ-zero}
 use lib.Signed.{_≤ℤ_, ≤ℤ-refl}
@@ -32,7 +33,8 @@ total-first g a (suc k) =
 -- one step of a window: the next term comes in, the first goes out
 pub total-slide : (g : ℕ → ℤ) (a k : ℕ) → total g (suc a) k ≡ total g a k +ℤ g (a + k) -ℤ g a
 total-slide g a k =
-    sub-of-add (total g (suc a) k) (g a) (+ℤ-comm (total g (suc a) k) (g a) ∙ sym (total-first g a k) ∙ total-next g a k)
+    sub-of-add (total g (suc a) k) (g a)
+    (+ℤ-comm (total g (suc a) k) (g a) ∙ sym (total-first g a k) ∙ total-next g a k)
 
 pub total-split : (g : ℕ → ℤ) (a j k : ℕ) → total g a (j + k) ≡ total g a j +ℤ total g (a + j) k
 unfolding total
@@ -50,11 +52,18 @@ total-same g h a zero e = refl
 total-same g h a (suc k) e =
     ap₂ _+ℤ_ (total-same g h a k (λ i p q. e i p (omega arith))) (e (a + k) (omega arith) (omega arith))
 
-pub total-within : (g : ℕ → ℤ) (a k b : ℕ) → ((i : ℕ) → a ≤ i → i < a + k → natAbs (g i) ≤ b) → natAbs (total g a k) ≤ k * b
+pub total-within : (g : ℕ → ℤ) (a k b : ℕ) → ((i : ℕ) → a ≤ i → i < a + k → natAbs (g i) ≤ b)
+    → natAbs (total g a k) ≤ k * b
 unfolding total
 total-within g a zero b h = zero-le
 total-within g a (suc k) b h =
-    omega (arith, natAbs-add (total g a k) (g (a + k)), total-within g a k b (λ i p q. h i p (omega arith)), h (a + k) (omega arith) (omega arith))
+    omega (
+      arith,
+      natAbs-add (total g a k) (g (a + k)),
+      total-within g a k b (λ i p q. h i p (omega arith)),
+      h (a + k)
+          (omega arith) (omega arith),
+    )
 
 pub total-mono : (g h : ℕ → ℤ) (a k : ℕ) → ((i : ℕ) → a ≤ i → i < a + k → g i ≤ℤ h i) → total g a k ≤ℤ total h a k
 unfolding total
@@ -93,12 +102,6 @@ unfolding total
 total-shift g a m zero = refl
 total-shift g a m (suc k) = ap₂ _+ℤ_ (total-shift g a m k) (ap g {x = a + k + m} {y = a + m + k} (omega arith))
 
--- of naturals
-pub total-pos : (f : ℕ → ℕ) (a k : ℕ) → total (λ i. pos (f i)) a k ≡ pos (count (λ i. f (a + i)) k)
-unfolding total count
-total-pos f a zero = refl
-total-pos f a (suc k) = ap (_+ℤ pos (f (a + k))) (total-pos f a k)
-
 -- ---- count
 
 pub count-zero : (f : ℕ → ℕ) → count f 0 ≡ 0
@@ -124,11 +127,6 @@ unfolding count
 count-le f g zero e = le-refl 0
 count-le f g (suc k) e = add-le-add (count-le f g k (λ i p. e i (omega arith))) (e k (omega arith))
 
-pub count-add : (f g : ℕ → ℕ) (k : ℕ) → count (λ i. f i + g i) k ≡ count f k + count g k
-unfolding count
-count-add f g zero = refl
-count-add f g (suc k) = omega (arith, count-add f g k)
-
 pub count-scale : (m : ℕ) (f : ℕ → ℕ) (k : ℕ) → count (λ i. m * f i) k ≡ m * count f k
 unfolding count
 count-scale m f zero = omega arith
@@ -138,16 +136,6 @@ pub count-const : (c k : ℕ) → count (λ i. c) k ≡ k * c
 unfolding count
 count-const c zero = omega arith
 count-const c (suc k) = omega (arith, count-const c k)
-
-pub count-within : (f : ℕ → ℕ) (k b : ℕ) → ((i : ℕ) → i < k → f i ≤ b) → count f k ≤ k * b
-count-within f k b h = rw (count-const b k) at (count-le f (λ i. b) k h)
-
--- counts only grow
-pub count-mono : (f : ℕ → ℕ) {j k : ℕ} → j ≤ k → count f j ≤ count f k
-count-mono f {j} {k} h = go (le-dest h)
-  where
-    go : (d : ℕ) × (j + d ≡ k) → count f j ≤ count f k
-    go (d, e) = omega (arith, count-split f j d, ap (count f) e)
 
 -- the first term first
 pub count-first : (f : ℕ → ℕ) (k : ℕ) → count f (suc k) ≡ f 0 + count (λ i. f (suc i)) k

@@ -1,8 +1,8 @@
--- Laws of tests that `lib.Dec`, `borrow.Author.Tests` and `mathlib.Core.Bool` lack. In order: a test's two cases, with the
--- equation; false is not true; tests that hold together are equal; `&&` and `||`; `cond`.
+-- Laws of tests that `lib.Dec`, `borrow.Author.Tests` and `mathlib.Core.Bool` lack. In order: a test's two cases, with
+-- the equation; false is not true; tests that hold together are equal; `&&` and `||`; `cond`.
 --
--- Not here: `ltb-true`, `lt-ltb` and their like, between a test and its fact (`borrow.Author.Tests`); `and-eq-true-iff`, `&&` into a pair
--- and back, and `or-eq-true-iff` (`mathlib.Core.Bool`).
+-- Not here: `ltb-true`, `lt-ltb` and their like, between a test and its fact (`borrow.Author.Tests`);
+-- `and-eq-true-iff`, `&&` into a pair and back, and `or-eq-true-iff` (`mathlib.Core.Bool`).
 use mathlib.Core.Path.{_≡_, refl, sym, _∙_}
 use mathlib.Core.Bool.{Bool, true, false, _&&_, _||_, cond, true≢false, false≢true}
 use mathlib.Core.Logic.{_⊎_, inl, inr, ⊎-elim}
@@ -29,10 +29,6 @@ pub false-of-not : (b : Bool) → (b ≡ true → ⊥) → b ≡ false
 false-of-not true h = absurd (h refl)
 false-of-not false h = refl
 
-pub true-of-not : (b : Bool) → (b ≡ false → ⊥) → b ≡ true
-true-of-not true h = refl
-true-of-not false h = absurd (h refl)
-
 -- tests that hold together are equal
 pub bool-ext : (a b : Bool) → (a ≡ true → b ≡ true) → (b ≡ true → a ≡ true) → a ≡ b
 bool-ext true b f g = sym (f refl)
@@ -40,16 +36,9 @@ bool-ext false b f g = sym (false-of-not b (λ e. false≢true (g e)))
 
 -- ---- `&&` and `||`
 
-pub and-false-left : {a : Bool} (b : Bool) → a ≡ false → (a && b) ≡ false
-and-false-left b e = rw e
-
 pub and-false-right : (a : Bool) {b : Bool} → b ≡ false → (a && b) ≡ false
 and-false-right true e = e
 and-false-right false e = refl
-
-pub and-false-cases : (a b : Bool) → (a && b) ≡ false → (a ≡ false) ⊎ (b ≡ false)
-and-false-cases true b e = inr e
-and-false-cases false b e = inl refl
 
 pub or-cases : (a b : Bool) → (a || b) ≡ true → (a ≡ true) ⊎ (b ≡ true)
 or-cases true b e = inl refl
@@ -67,13 +56,15 @@ or-false-right true b e = absurd (true≢false e)
 or-false-right false b e = e
 
 -- a holds where b or c does
-pub or-ext : (a b c : Bool) → (a ≡ true → (b ≡ true) ⊎ (c ≡ true)) → (b ≡ true → a ≡ true) → (c ≡ true → a ≡ true) → a ≡ (b || c)
+pub or-ext : (a b c : Bool) → (a ≡ true → (b ≡ true) ⊎ (c ≡ true)) → (b ≡ true → a ≡ true) → (c ≡ true → a ≡ true)
+    → a ≡ (b || c)
 or-ext a true c f g h = g refl
 or-ext a false true f g h = h refl
 or-ext a false false f g h = false-of-not a (λ e. ⊎-elim false≢true false≢true (f e))
 
 -- a holds where b does and at the place i: how a test on places goes on by one place
-pub or-place : (a b : Bool) (i j : ℕ) → (a ≡ true → (j ≡ i → ⊥) → b ≡ true) → (b ≡ true → a ≡ true) → (j ≡ i → a ≡ true) → a ≡ (b || eqb j i)
+pub or-place : (a b : Bool) (i j : ℕ) → (a ≡ true → (j ≡ i → ⊥) → b ≡ true) → (b ≡ true → a ≡ true) → (j ≡ i → a ≡ true)
+    → a ≡ (b || eqb j i)
 or-place a b i j f g h =
     or-ext a b (eqb j i) (λ e. by-test (eqb j i) inr (λ q. inl (f e (eqb-false j i q)))) g (λ e. h (eqb-true j i e))
 
@@ -88,6 +79,11 @@ cond-false x y e = rw e
 pub cond-same {ℓ} : {A : Type ℓ} (b : Bool) (x : A) → cond b x x ≡ x
 cond-same true x = refl
 cond-same false x = refl
+
+-- what holds of both holds of the choice
+pub cond-both {ℓ κ} : {A : Type ℓ} (P : A → Type κ) (b : Bool) (x y : A) → P x → P y → P (cond b x y)
+cond-both P true x y h k = h
+cond-both P false x y h k = k
 
 -- a function of a choice is the choice of its values
 pub ap-cond {ℓ κ} : {A : Type ℓ} {B : Type κ} (f : A → B) (b : Bool) (x y : A) → f (cond b x y) ≡ cond b (f x) (f y)

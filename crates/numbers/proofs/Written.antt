@@ -1,9 +1,9 @@
--- Laws of `Written`, over any type of element. In order: how a writing begins, goes on by a store and by another writing, and is said
--- otherwise; what the list then holds; what `Painted` says of a pixel; a writing into a part, `&mut s[a..e]`, seen on the whole
--- (`written-part`). The laws of its tests are in `Places`.
+-- Laws of `Written`, over any type of element. In order: how a writing begins, goes on by a store and by another
+-- writing, and is said otherwise; what the list then holds; what `Painted` says of a pixel; a writing into a part,
+-- `&mut s[a..e]`, seen on the whole (`written-part`). The laws of its tests are in `Places`.
 --
--- A loop's invariant is a `Written` from the list at the loop's start to the list now. An inner loop starts from another list than the
--- function: after it, `written-join` joins its writing to the outer one.
+-- A loop's invariant is a `Written` from the list at the loop's start to the list now. An inner loop starts from
+-- another list than the function: after it, `written-join` joins its writing to the outer one.
 use mathlib.Core.Path.{_≡_, refl, sym, ap, _∙_}
 use mathlib.Core.Bool.{Bool, true, false, _||_, cond}
 use mathlib.Core.List.{List, _++_}
@@ -15,7 +15,7 @@ use borrow.Rule.Slice.PartMut.{same-len-mid}
 use lib.Arith.{digits-div, digits-mod}
 use lib.Dec.{ltb, eqb}
 use lib.ListN.{length, getD, set, take, drop, length-set, List·getD-eq-default}
-use lib.Seq.{getD-set-same, getD-set-other, ext-getD}
+use lib.Seq.{getD-set-same, getD-set-other}
 use Rattle.numbers.specs.Written.{Written, Painted, part}
 use Rattle.numbers.proofs.List.{getD-part, length-part, getD-back-before, getD-back-within, getD-back-after}
 use Rattle.numbers.proofs.Places.{part-iff, within, within-iff, pixels-at, pixels-iff}
@@ -35,7 +35,8 @@ module _ {A : Type 0} {z : A} {g : ℕ → A} {old : List A} where
       record {
         same-length = S .same-length ∙ F .same-length;
         hits = λ j b e.
-            by-test (hit₂ j) (λ q. S .hits j (in-mid j b) q) (λ q. S .rest j (in-mid j b) q ∙ F .hits j b (first j e q));
+            by-test (hit₂ j) (λ q. S .hits j (in-mid j b) q)
+            (λ q. S .rest j (in-mid j b) q ∙ F .hits j b (first j e q));
         rest = λ j b e.
             S .rest j (in-mid j b) (or-false-right (hit₁ j) (hit₂ j) (sym (t j) ∙ e))
             ∙ F .rest j b (or-false-left (hit₁ j) (hit₂ j) (sym (t j) ∙ e));
@@ -48,7 +49,8 @@ module _ {A : Type 0} {z : A} {g : ℕ → A} {old : List A} where
       first j e q = ⊎-elim (λ p. p) (λ p. absurd (false-not-true q p)) (or-cases (hit₁ j) (hit₂ j) (sym (t j) ∙ e))
 
   -- a store of what g has there
-  pub written-set : {hit hit′ : ℕ → Bool} {new : List A} (i : ℕ) (v : A) → Written z hit g old new → i < length new → v ≡ g i
+  pub written-set : {hit hit′ : ℕ → Bool} {new : List A} (i : ℕ) (v : A) → Written z hit g old new → i < length new
+      → v ≡ g i
       → ((j : ℕ) → hit′ j ≡ (hit j || eqb j i)) → Written z hit′ g old (set new i v)
   written-set {new = new} i v W b e t = written-join W stored t
     where
@@ -60,22 +62,10 @@ module _ {A : Type 0} {z : A} {g : ℕ → A} {old : List A} where
             rest = λ j c q. getD-set-other new i j v z (eqb-false j i q);
           }
 
-  -- a writing over another, of whatever it wrote
-  pub written-over : {hit₁ hit : ℕ → Bool} {g₁ : ℕ → A} {mid new : List A} → Written z hit₁ g₁ old mid → Written z hit g mid new
-      → ((j : ℕ) → hit₁ j ≡ true → hit j ≡ true) → Written z hit g old new
-  written-over {hit₁} {mid = mid} F S t =
-      record {
-        same-length = S .same-length ∙ F .same-length;
-        hits = λ j b e. S .hits j (in-mid j b) e;
-        rest = λ j b e. S .rest j (in-mid j b) e ∙ F .rest j b (false-of-not (hit₁ j) (λ q. false-not-true e (t j q)));
-      }
-    where
-      in-mid : (j : ℕ) → j < length old → j < length mid
-      in-mid j b = rw (F .same-length) b
-
   -- a test that is equal below the length, values that are equal where they are written
   pub written-same : {hit hit′ : ℕ → Bool} {g′ : ℕ → A} {new : List A} → Written z hit g old new
-      → ((j : ℕ) → j < length old → hit′ j ≡ hit j) → ((j : ℕ) → j < length old → hit j ≡ true → g j ≡ g′ j) → Written z hit′ g′ old new
+      → ((j : ℕ) → j < length old → hit′ j ≡ hit j) → ((j : ℕ) → j < length old → hit j ≡ true → g j ≡ g′ j)
+      → Written z hit′ g′ old new
   written-same W t v =
       record {
         same-length = W .same-length;
@@ -86,9 +76,6 @@ module _ {A : Type 0} {z : A} {g : ℕ → A} {old : List A} where
   -- ---- what the list then holds
 
   module _ {hit : ℕ → Bool} {new : List A} (W : Written z hit g old new) where
-    pub written-length : length new ≡ length old
-    written-length = W .same-length
-
     pub written-get : (j : ℕ) → j < length old → getD new j z ≡ cond (hit j) (g j) (getD old j z)
     written-get j b = by-test (hit j) (λ e. rw e (W .hits j b e)) (λ e. rw e (W .rest j b e))
 
@@ -108,20 +95,6 @@ module _ {A : Type 0} {z : A} {g : ℕ → A} {old : List A} where
         let b : j < length old = rw (W .same-length) at c in
         by-test (hit j) (λ e. rw (W .hits j b e) (w j b e)) (λ e. rw (W .rest j b e) (o j b))
 
-    -- lists that are written alike are equal
-    pub written-unique : {new′ : List A} → Written z hit g old new′ → new ≡ new′
-    written-unique {new′} W′ =
-        ext-getD z new new′ (W .same-length ∙ sym (W′ .same-length)) λ j c.
-        let b : j < length old = rw (W .same-length) at c in
-        by-test (hit j) (λ e. W .hits j b e ∙ sym (W′ .hits j b e)) (λ e. W .rest j b e ∙ sym (W′ .rest j b e))
-
-    -- where every place is written, the list is the one that holds g
-    pub written-whole : (xs : List A) → ((j : ℕ) → j < length old → hit j ≡ true) → length xs ≡ length old
-        → ((j : ℕ) → j < length old → getD xs j z ≡ g j) → new ≡ xs
-    written-whole xs all l v =
-        written-unique
-        (record { same-length = l; hits = λ j b _. v j b; rest = λ j b e. absurd (false-not-true e (all j b)) })
-
 -- ---- a painted picture
 
 -- what is written at column x of row y
@@ -137,9 +110,11 @@ module _ {A : Type 0} {z : A} (f : ℕ → ℕ → A) (w h s : ℕ) {old new : L
   painted-same f′ e =
       written-same P (λ j b. refl) (λ j b q. let c = pixels-iff w h s j .0 q in e (j % s) (j / s) (c .0) (c .1))
 
-pub written-part : {A : Type 0} {z : A} {hit hit′ : ℕ → Bool} {g g′ : ℕ → A} {ys : List A} (a n : ℕ) (xs : List A) → a + n ≤ length xs
+pub written-part : {A : Type 0} {z : A} {hit hit′ : ℕ → Bool} {g g′ : ℕ → A} {ys : List A} (a n : ℕ) (xs : List A)
+    → a + n ≤ length xs
     → Written z hit g (take n (drop a xs)) ys → ((j : ℕ) → hit′ j ≡ within a n hit j)
-    → ((i : ℕ) → i < n → hit i ≡ true → g i ≡ g′ (a + i)) → Written z hit′ g′ xs (take a xs ++ (ys ++ drop n (drop a xs)))
+    → ((i : ℕ) → i < n → hit i ≡ true → g i ≡ g′ (a + i))
+    → Written z hit′ g′ xs (take a xs ++ (ys ++ drop n (drop a xs)))
 written-part {z = z} {hit} {hit′} {g} {g′} {ys} a n xs h W t v =
     record {
       same-length = same-len-mid a n xs ys (W .same-length);

@@ -31,7 +31,7 @@ comb a s n j = leb a j && eqb ((j - a) % s) 0 && ltb ((j - a) / s) n
 unfoldable pub pixels : ℕ → ℕ → ℕ → ℕ → Bool
 pixels w h s j = ltb (j % s) w && ltb (j / s) h
 
--- every pixel of a picture, w by h with stride s, is f of its column and its row; bytes between rows and behind the last row never
--- change (document 01, "Views and lines")
+-- every pixel of a picture, w by h with stride s, is f of its column and its row; bytes between rows and after the last
+-- row never change (document 01, "Views and lines")
 abbrev pub Painted : {A : Type 0} → A → (ℕ → ℕ → A) → ℕ → ℕ → ℕ → List A → List A → Type 0
 Painted z f w h s old new = Written z (pixels w h s) (λ j. f (j % s) (j / s)) old new

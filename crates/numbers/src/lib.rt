@@ -1,9 +1,9 @@
 // Scalar functions that the other crates share, each with its contract on ℕ or ℤ.
 ghost use mathlib.Core.Path.{_≡_};
-ghost use Prim.Native.Nat.{_<_, _^_};
+ghost use Prim.Native.Nat.{_<_, _^_, min, max};
 ghost use lib.IntN.{pos, natAbs};
 ghost use lib.Signed.{_<ℤ_, shrZ};
-ghost use Rattle.numbers.specs.Scalar.{clampByte, sign};
+ghost use Rattle.numbers.specs.Scalar.{clampByte};
 
 // v cut to 0..255.
 pub fn clamp_u8(v: i32) -> u8
@@ -18,16 +18,7 @@ pub fn clamp_u8(v: i32) -> u8
     v as u8
 }
 
-// The size of v, i32::MIN's included.
-pub fn abs_i32(v: i32) -> u32
-    ensures { λ r. ⌜ r ≡ natAbs v ⌝ }
-{
-    if v < 0 {
-        return (-(v + 1)) as u32 + 1;
-    }
-    v as u32
-}
-
+// The size of v, i64::MIN's included.
 pub fn abs_i64(v: i64) -> u64
     ensures { λ r. ⌜ r ≡ natAbs v ⌝ }
 {
@@ -37,17 +28,16 @@ pub fn abs_i64(v: i64) -> u64
     v as u64
 }
 
-// −1, 0 or 1.
-pub fn sign_i32(v: i32) -> i32
-    ensures { λ r. ⌜ r ≡ sign v ⌝ }
+pub fn min_usize(a: usize, b: usize) -> usize
+    ensures { λ r. ⌜ r ≡ min a b ⌝ }
 {
-    if v < 0 {
-        return -1;
-    }
-    if v > 0 {
-        return 1;
-    }
-    0
+    if a < b { a } else { b }
+}
+
+pub fn max_usize(a: usize, b: usize) -> usize
+    ensures { λ r. ⌜ r ≡ max a b ⌝ }
+{
+    if a < b { b } else { a }
 }
 
 // The floor of z / d. The machine cuts toward zero: one less where the remainder is negative.

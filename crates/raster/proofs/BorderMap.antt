@@ -1,6 +1,7 @@
 -- Laws of places and of the border map: the remainder, each border's range, and that every border is lawful.
 use Prim.Native.Nat.{ℕ, suc, _+_, _*_, _-_, _/_, _%_, _≤_, _<_, zero-le}
-use native.Mathlib.Nat.{mod-lt, mod-eq-of-lt, div-add-mod', min-eq-left, min-eq-right, min-le-right, eq-or-lt-of-le, ne-of-gt, suc-mul, suc-sub-suc, lt-of-le-of-lt}
+use native.Mathlib.Nat.{mod-lt, mod-eq-of-lt, div-add-mod', min-eq-left, min-eq-right, min-le-right, eq-or-lt-of-le}
+use native.Mathlib.Nat.{ne-of-gt, suc-mul, suc-sub-suc, lt-of-le-of-lt}
 use native.Mathlib.Omega.{arith}
 use mathlib.Core.Bool.{Bool, true, false, cond}
 use mathlib.Core.Logic.{⊎-elim}
@@ -36,10 +37,13 @@ modℤ-div (negsuc k) m h =
     let below : k % m < m = mod-lt k h in
     let whole : k / m * m + k % m ≡ k = div-add-mod' k m in
     let e : suc (k / m) * m ≡ suc (k / m * m + (m - 1)) = omega (arith, suc-mul (k / m) m, h) in
-    ap (λ (x : ℕ). negℤ (pos x) +ℤ pos (m - 1 - k % m)) e ∙ neg-plus (k / m * m + (m - 1)) (m - 1 - k % m) (omega arith) ∙ ap negsuc (omega arith)
+    ap (λ (x : ℕ). negℤ (pos x) +ℤ pos (m - 1 - k % m)) e
+    ∙ neg-plus (k / m * m + (m - 1)) (m - 1 - k % m) (omega arith)
+    ∙ ap negsuc (omega arith)
 
 pub mod-before : (u half m : ℕ) → u < half → modℤ (subℕ u half) m ≡ m - 1 - (half - u - 1) % m
-mod-before u half m h = ap (λ (p : ℤ). modℤ p m) (place-before u half h) ∙ ap (λ (k : ℕ). m - 1 - k % m) (omega (arith, h))
+mod-before u half m h =
+    ap (λ (p : ℤ). modℤ p m) (place-before u half h) ∙ ap (λ (k : ℕ). m - 1 - k % m) (omega (arith, h))
 
 pub mod-from : (u half m : ℕ) → half ≤ u → modℤ (subℕ u half) m ≡ (u - half) % m
 mod-from u half m h = ap (λ (p : ℤ). modℤ p m) (place-from u half h)

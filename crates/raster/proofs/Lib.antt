@@ -2,5 +2,6 @@
 pub mod Area
 pub mod BorderExamples
 pub mod BorderMap
+pub mod Codes
 pub mod Place
 pub mod Scatter

@@ -1,5 +1,5 @@
--- Laws of the places of a line: `one-line`, every pixel lies on one line at one place; `reach`, a line goes on until it leaves the picture;
--- `byte-at`, the bytes of its places. Assumes nothing.
+-- Laws of the places of a line: `one-line`, every pixel lies on one line at one place; `reach`, a line goes on until it
+-- leaves the picture; `byte-at`, the bytes of its places. Assumes nothing.
 use mathlib.Core.Path.{_≡_, refl, sym, _∙_, ap}
 use mathlib.Core.Bool.{_&&_, and-eq-true-iff}
 use mathlib.Core.Logic.{_⊎_, inl, inr, ⊎-elim}
@@ -10,15 +10,18 @@ use lib.Dec.{leb, ltb}
 use lib.IntN.{pos, negsuc, subℕ, _+ℤ_, _*ℤ_}
 use borrow.Author.Tests.{ltb-true, ltb-false, leb-true, leb-false, lt-ltb, le-ltb}
 use Rattle.raster.specs.declared.direction.RasterDirection4.{RasterDirection4}
-use Rattle.raster.specs.declared.direction.RasterDirection4.the-variants.{Horizontal, DownRight, Vertical, DownLeft}
-use Rattle.raster.specs.Lines.{lineCount, startCol, startRow, lineLength, lineOf, colAt, rowAt, OnLine, AtPlace, OneLine, Reach, inPicture, lengthFrom, colFrom, rowFrom, byteOf, placeStep}
+use Rattle.raster.specs.declared.direction.RasterDirection4.the-variants.{Horizontal, DownRight}
+use Rattle.raster.specs.declared.direction.RasterDirection4.the-variants.{Vertical, DownLeft}
+use Rattle.raster.specs.Lines.{lineCount, startCol, startRow, lineLength, lineOf, colAt, rowAt, OnLine, AtPlace}
+use Rattle.raster.specs.Lines.{OneLine, Reach, inPicture, lengthFrom, colFrom, rowFrom, byteOf, placeStep}
 use Rattle.numbers.proofs.Test.{bool-cases, bool-ext}
 
 -- ---- where a line starts
 
 -- a diagonal's line k starts in the top row, or from row 1 in a side column, of which `side` says which it is
 abbrev pub Diagonal : RasterDirection4 → Type 0 → ℕ → ℕ → Type 0
-Diagonal d side w k = ((k < w) × (startCol d w k ≡ k) × (startRow d w k ≡ 0)) ⊎ ((w ≤ k) × side × (startRow d w k + w ≡ k + 1))
+Diagonal d side w k =
+    ((k < w) × (startCol d w k ≡ k) × (startRow d w k ≡ 0)) ⊎ ((w ≤ k) × side × (startRow d w k + w ≡ k + 1))
 
 abbrev pub Starts : RasterDirection4 → ℕ → ℕ → Type 0
 Starts Horizontal w k = (startCol Horizontal w k ≡ 0) × (startRow Horizontal w k ≡ k)
@@ -45,7 +48,8 @@ starts DownLeft w k hw =
 
 abbrev Lies : RasterDirection4 → ℕ → ℕ → ℕ → Type 0
 Lies Horizontal w c r = lineOf Horizontal w c r ≡ r
-Lies DownRight w c r = ((r ≤ c) × (lineOf DownRight w c r + r ≡ c)) ⊎ ((c < r) × (lineOf DownRight w c r + c + 1 ≡ w + r))
+Lies DownRight w c r =
+    ((r ≤ c) × (lineOf DownRight w c r + r ≡ c)) ⊎ ((c < r) × (lineOf DownRight w c r + c + 1 ≡ w + r))
 Lies Vertical w c r = lineOf Vertical w c r ≡ c
 Lies DownLeft w c r = lineOf DownLeft w c r ≡ c + r
 
@@ -63,7 +67,8 @@ lies DownLeft w c r = refl
 -- ---- every pixel lies on one line, at one place
 
 on-line : (d : RasterDirection4) (w h c r : ℕ) → 1 ≤ w → c < w → r < h → OnLine d w h c r
-on-line Horizontal w h c r hw hc hr = omega (arith, lies Horizontal w c r, starts Horizontal w (lineOf Horizontal w c r) hw)
+on-line Horizontal w h c r hw hc hr =
+    omega (arith, lies Horizontal w c r, starts Horizontal w (lineOf Horizontal w c r) hw)
 on-line DownRight w h c r hw hc hr =
     ⊎-elim
     (λ l. ⊎-elim (λ s. omega arith) (λ s. omega arith) (starts DownRight w (lineOf DownRight w c r) hw))
@@ -74,13 +79,15 @@ on-line DownLeft w h c r hw hc hr =
     let l = lies DownLeft w c r in
     ⊎-elim (λ s. omega arith) (λ s. omega arith) (starts DownLeft w (lineOf DownLeft w c r) hw)
 
-at-place : (d : RasterDirection4) (w h k i : ℕ) → 1 ≤ w → k < lineCount d w h → i < lineLength d w h k → AtPlace d w h k i
+at-place : (d : RasterDirection4) (w h k i : ℕ) → 1 ≤ w → k < lineCount d w h → i < lineLength d w h k
+    → AtPlace d w h k i
 at-place Horizontal w h k i hw hk hi =
     omega (arith, starts Horizontal w k hw, lies Horizontal w (colAt Horizontal w k i) (rowAt Horizontal w k i))
 at-place DownRight w h k i hw hk hi =
+    let on = lies DownRight w (colAt DownRight w k i) (rowAt DownRight w k i) in
     ⊎-elim
-    (λ s. ⊎-elim (λ l. omega arith) (λ l. omega arith) (lies DownRight w (colAt DownRight w k i) (rowAt DownRight w k i)))
-    (λ s. ⊎-elim (λ l. omega arith) (λ l. omega arith) (lies DownRight w (colAt DownRight w k i) (rowAt DownRight w k i)))
+    (λ s. ⊎-elim (λ l. omega arith) (λ l. omega arith) on)
+    (λ s. ⊎-elim (λ l. omega arith) (λ l. omega arith) on)
     (starts DownRight w k hw)
 at-place Vertical w h k i hw hk hi =
     omega (arith, starts Vertical w k hw, lies Vertical w (colAt Vertical w k i) (rowAt Vertical w k i))
@@ -107,7 +114,8 @@ line-in DownLeft w h k hw hh hk = ⊎-elim (λ s. omega arith) (λ s. omega arit
 -- ---- a line goes on until it leaves the picture
 
 -- two bounds that say together what one says
-both-below : (x w y h i n : ℕ) → ((x < w) × (y < h) → i < n) → (i < n → (x < w) × (y < h)) → (ltb x w && ltb y h) ≡ ltb i n
+both-below : (x w y h i n : ℕ) → ((x < w) × (y < h) → i < n) → (i < n → (x < w) × (y < h))
+    → (ltb x w && ltb y h) ≡ ltb i n
 both-below x w y h i n f g =
     bool-ext (ltb x w && ltb y h) (ltb i n)
     (λ e. let b = and-eq-true-iff (ltb x w) (ltb y h) .0 e in lt-ltb i n (f (ltb-true x w (b .0), ltb-true y h (b .1))))
@@ -124,7 +132,8 @@ left-within c i h = leftwards c i ∙ simp (le-ltb c i h)
 left-beyond : (c i : ℕ) → c < i → pos c +ℤ pos i *ℤ negsuc 0 ≡ negsuc (i - suc c)
 left-beyond c i h = leftwards c i ∙ simp (lt-ltb c i h)
 
-left-ends : (w h c r i : ℕ) → c < w → r < h → inPicture w h (pos c +ℤ pos i *ℤ negsuc 0) (pos (r + i * 1)) ≡ ltb i (min (c + 1) (h - r))
+left-ends : (w h c r i : ℕ) → c < w → r < h
+    → inPicture w h (pos c +ℤ pos i *ℤ negsuc 0) (pos (r + i * 1)) ≡ ltb i (min (c + 1) (h - r))
 left-ends w h c r i hc hr =
     ⊎-elim
     (λ e. let o = ltb-true c i e in rw (left-beyond c i o) (sym (le-ltb i (min (c + 1) (h - r)) (omega arith))))
@@ -159,12 +168,15 @@ reach DownLeft w h c r i hc hr =
 
 -- ---- the bytes of a line's places
 
-byte-from : (d : RasterDirection4) (w h stride c r i : ℕ) → 1 ≤ stride → i < lengthFrom d w h c r → byteOf stride (colFrom d c i) (rowFrom d r i) ≡ byteOf stride c r + i * placeStep d stride
+byte-from : (d : RasterDirection4) (w h stride c r i : ℕ) → 1 ≤ stride → i < lengthFrom d w h c r
+    → byteOf stride (colFrom d c i) (rowFrom d r i) ≡ byteOf stride c r + i * placeStep d stride
 byte-from Horizontal w h stride c r i hs hi = omega arith
 byte-from DownRight w h stride c r i hs hi = omega (arith, add-mul r i stride, mul-add i stride 1)
 byte-from Vertical w h stride c r i hs hi = omega (arith, add-mul r i stride)
 byte-from DownLeft w h stride c r i hs hi =
     omega (arith, add-mul r i stride, mul-add i (stride - 1) 1, ap (λ (n : ℕ). i * n) (sub-add-cancel hs))
 
-pub byte-at : (d : RasterDirection4) (w h stride k i : ℕ) → 1 ≤ stride → i < lineLength d w h k → byteOf stride (colAt d w k i) (rowAt d w k i) ≡ byteOf stride (startCol d w k) (startRow d w k) + i * placeStep d stride
+pub byte-at : (d : RasterDirection4) (w h stride k i : ℕ) → 1 ≤ stride → i < lineLength d w h k
+    → byteOf stride (colAt d w k i) (rowAt d w k i)
+    ≡ byteOf stride (startCol d w k) (startRow d w k) + i * placeStep d stride
 byte-at d w h stride k i = byte-from d w h stride (startCol d w k) (startRow d w k) i

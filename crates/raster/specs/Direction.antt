@@ -3,10 +3,12 @@ use mathlib.Core.Path.{_≡_, refl}
 use mathlib.Core.Bool.{cond}
 use mathlib.Core.List.{[], _∷_, map}
 use Prim.Native.Nat.{ℕ}
+use lib.Dec.{eqb}
 use lib.IntN.{pos, negsuc}
 use lib.Ieee.{Float, nan, binary64, ofBits, add, mul, div, rem, lt}
 use Rattle.raster.specs.declared.direction.RasterDirection4.{RasterDirection4}
-use Rattle.raster.specs.declared.direction.RasterDirection4.the-variants.{Horizontal, DownRight, Vertical, DownLeft}
+use Rattle.raster.specs.declared.direction.RasterDirection4.the-variants.{Horizontal, DownRight}
+use Rattle.raster.specs.declared.direction.RasterDirection4.the-variants.{Vertical, DownLeft}
 use Rattle.raster.specs.declared.direction.RasterStep.{RasterStep}
 
 -- ---- document 01, "Views and lines": a line steps (1,0) Horizontal, (1,1) DownRight, (0,1) Vertical, (−1,1) DownLeft
@@ -24,6 +26,9 @@ directionIndex DownRight = 1
 directionIndex Vertical = 2
 directionIndex DownLeft = 3
 
+abbrev pub directionFrom : ℕ → RasterDirection4
+directionFrom d = cond (eqb d 0) Horizontal (cond (eqb d 1) DownRight (cond (eqb d 2) Vertical DownLeft))
+
 -- ---- document 01, "Direction from an angle": each operation rounds once
 
 -- the angle × 57.29577951308232 % 180
@@ -35,7 +40,9 @@ signedRest angle =
 unfoldable pub halfTurn : Float → Float
 unfolding signedRest
 halfTurn angle =
-    cond (lt (signedRest angle) (ofBits binary64 0)) (add binary64 (signedRest angle) (ofBits binary64 0x4066_8000_0000_0000)) (signedRest angle)
+    cond (lt (signedRest angle) (ofBits binary64 0))
+    (add binary64 (signedRest angle) (ofBits binary64 0x4066_8000_0000_0000))
+    (signedRest angle)
 
 -- v below 0.5 Horizontal, below 1.5 DownRight, below 2.5 Vertical, below 3.5 DownLeft, else Horizontal
 unfoldable pub nearest : Float → RasterDirection4
@@ -58,7 +65,12 @@ fromAngle angle = nearest (div binary64 (halfTurn angle) (ofBits binary64 0x4046
 -- 0.39, 0.40, −1.0, 3.0 and not a number
 examples :
     map (λ (bits : ℕ). fromAngle (ofBits binary64 bits))
-    (0x3fd8_f5c2_8f5c_28f6 ∷ 0x3fd9_9999_9999_999a ∷ 0xbff0_0000_0000_0000 ∷ 0x4008_0000_0000_0000 ∷ 0x7ff8_0000_0000_0000 ∷ [])
+    (0x3fd8_f5c2_8f5c_28f6
+    ∷ 0x3fd9_9999_9999_999a
+    ∷ 0xbff0_0000_0000_0000
+    ∷ 0x4008_0000_0000_0000
+    ∷ 0x7ff8_0000_0000_0000
+    ∷ [])
     ≡ Horizontal ∷ DownRight ∷ DownLeft ∷ Horizontal ∷ Horizontal ∷ []
 unfolding fromAngle ofBits mul rem lt add div
 examples = refl

@@ -1,5 +1,6 @@
--- The lines of a direction in a picture w by h: where each starts, how long it is, which pixel stands at each of its places, and on which line a pixel lies.
--- Document 01, "Views and lines". Columns and rows, lines and places are counted from 0.
+-- The lines of a direction in a picture w by h: where each starts, how long it is, which pixel stands at each of its
+-- places, and on which line a pixel lies. Document 01, "Views and lines". Columns and rows, lines and places are
+-- counted from 0.
 use mathlib.Core.Path.{_≡_, refl}
 use mathlib.Core.Bool.{Bool, false, _&&_, cond}
 use mathlib.Core.List.{[], _∷_, map}
@@ -7,7 +8,8 @@ use Prim.Native.Nat.{ℕ, _+_, _-_, _*_, _≤_, _<_, min}
 use lib.Dec.{leb, ltb}
 use lib.IntN.{ℤ, pos, negsuc, _+ℤ_, _*ℤ_}
 use Rattle.raster.specs.declared.direction.RasterDirection4.{RasterDirection4}
-use Rattle.raster.specs.declared.direction.RasterDirection4.the-variants.{Horizontal, DownRight, Vertical, DownLeft}
+use Rattle.raster.specs.declared.direction.RasterDirection4.the-variants.{Horizontal, DownRight}
+use Rattle.raster.specs.declared.direction.RasterDirection4.the-variants.{Vertical, DownLeft}
 use Rattle.raster.specs.declared.lines.ScanLine.{ScanLine}
 use Rattle.raster.specs.Direction.{stepOf}
 
@@ -70,18 +72,22 @@ colAt d w k i = colFrom d (startCol d w k) i
 abbrev pub rowAt : RasterDirection4 → ℕ → ℕ → ℕ → ℕ
 rowAt d w k i = rowFrom d (startRow d w k) i
 
-abbrev pub lineAt : RasterDirection4 → ℕ → ℕ → ℕ → ScanLine
-lineAt d w h k = record { col = startCol d w k; row = startRow d w k; len = lineLength d w h k }
+abbrev pub scanLineAt : RasterDirection4 → ℕ → ℕ → ℕ → ScanLine
+scanLineAt d w h k = record { col = startCol d w k; row = startRow d w k; len = lineLength d w h k }
 
 -- worked: in a picture 5 by 3, column and row of each line's start, and its length
 abbrev five-by-three : RasterDirection4 → ℕ → ℕ × ℕ × ℕ
 five-by-three d k = (startCol d 5 k, startRow d 5 k, lineLength d 5 3 k)
 
-down-right : map (five-by-three DownRight) (0 ∷ 1 ∷ 2 ∷ 3 ∷ 4 ∷ 5 ∷ 6 ∷ []) ≡ (0, 0, 3) ∷ (1, 0, 3) ∷ (2, 0, 3) ∷ (3, 0, 2) ∷ (4, 0, 1) ∷ (0, 1, 2) ∷ (0, 2, 1) ∷ []
+down-right :
+    map (five-by-three DownRight) (0 ∷ 1 ∷ 2 ∷ 3 ∷ 4 ∷ 5 ∷ 6 ∷ [])
+    ≡ (0, 0, 3) ∷ (1, 0, 3) ∷ (2, 0, 3) ∷ (3, 0, 2) ∷ (4, 0, 1) ∷ (0, 1, 2) ∷ (0, 2, 1) ∷ []
 unfolding startCol startRow
 down-right = refl
 
-down-left : map (five-by-three DownLeft) (0 ∷ 1 ∷ 2 ∷ 3 ∷ 4 ∷ 5 ∷ 6 ∷ []) ≡ (0, 0, 1) ∷ (1, 0, 2) ∷ (2, 0, 3) ∷ (3, 0, 3) ∷ (4, 0, 3) ∷ (4, 1, 2) ∷ (4, 2, 1) ∷ []
+down-left :
+    map (five-by-three DownLeft) (0 ∷ 1 ∷ 2 ∷ 3 ∷ 4 ∷ 5 ∷ 6 ∷ [])
+    ≡ (0, 0, 1) ∷ (1, 0, 2) ∷ (2, 0, 3) ∷ (3, 0, 3) ∷ (4, 0, 3) ∷ (4, 1, 2) ∷ (4, 2, 1) ∷ []
 unfolding startCol startRow
 down-left = refl
 
@@ -91,9 +97,11 @@ inPicture w h (pos c) (pos r) = ltb c w && ltb r h
 inPicture w h (pos c) (negsuc r) = false
 inPicture w h (negsuc c) y = false
 
--- From the pixel (c, r), i steps lead to a pixel exactly where i is below `lengthFrom`, and that pixel is the one that `colFrom` and `rowFrom` name.
+-- From the pixel (c, r), i steps lead to a pixel exactly where i is below `lengthFrom`, and that pixel is the one that
+-- `colFrom` and `rowFrom` name.
 pub record Reach (d : RasterDirection4) (w h c r i : ℕ) : Type 0 where
-  pub ends : inPicture w h (pos c +ℤ pos i *ℤ stepOf d .dx) (pos r +ℤ pos i *ℤ stepOf d .dy) ≡ ltb i (lengthFrom d w h c r)
+  pub ends :
+      inPicture w h (pos c +ℤ pos i *ℤ stepOf d .dx) (pos r +ℤ pos i *ℤ stepOf d .dy) ≡ ltb i (lengthFrom d w h c r)
   pub col : i < lengthFrom d w h c r → pos c +ℤ pos i *ℤ stepOf d .dx ≡ pos (colFrom d c i)
   pub row : pos r +ℤ pos i *ℤ stepOf d .dy ≡ pos (rowFrom d r i)
 

@@ -2,7 +2,8 @@
 ghost use mathlib.Core.Path.{_≡_};
 ghost use Prim.Native.Nat.{_%_, _≤_, _<_};
 ghost use lib.IntN.{subℕ};
-ghost use Rattle.raster.specs.Border.{borderMap, borderValue, constant, modℤ, nearer, reflected};
+ghost use Rattle.raster.specs.Border.{borderCode, borderValue, borderFrom, isBorder};
+ghost use Rattle.raster.specs.Border.{borderMap, constant, modℤ, nearer, reflected};
 
 // What stands outside a line.
 pub enum LineBorderMode {
@@ -12,6 +13,49 @@ pub enum LineBorderMode {
     Reflect,
     // A grey value.
     Constant(u8),
+}
+
+impl LineBorderMode {
+    // The border's number in a record.
+    pub fn code(self) -> u8
+        ensures { λ r. ⌜ r ≡ borderCode self ⌝ }
+    {
+        match self {
+            LineBorderMode::Replicate => 0,
+            LineBorderMode::Reflect => 1,
+            LineBorderMode::Constant(_) => 2,
+        }
+    }
+
+    // A constant border's value; 0 for the others.
+    pub fn value(self) -> u8
+        ensures { λ r. ⌜ r ≡ borderValue self ⌝ }
+    {
+        match self {
+            LineBorderMode::Replicate => 0,
+            LineBorderMode::Reflect => 0,
+            LineBorderMode::Constant(value) => value,
+        }
+    }
+
+    // The border of a number and a value. A number that is no border's stands for Constant.
+    pub fn from_code(code: u8, value: u8) -> Self
+        ensures { λ r. ⌜ r ≡ borderFrom code value ⌝ }
+    {
+        match code {
+            0 => LineBorderMode::Replicate,
+            1 => LineBorderMode::Reflect,
+            _ => LineBorderMode::Constant(value),
+        }
+    }
+
+    // Whether a border has this number and this value.
+    pub fn is_code(code: u8, value: u8) -> bool
+        ensures { λ r. ⌜ r ≡ isBorder code value ⌝ }
+    {
+        let border = LineBorderMode::from_code(code, value);
+        (border.code() == code) & (border.value() == value)
+    }
 }
 
 // Where a sample comes from: a place of the line, or a value outside it.
@@ -94,16 +138,5 @@ pub fn border_index(u: usize, half: usize, length: usize, border: LineBorderMode
         LineBorderMode::Replicate => BorderSample::Inside(nearer_end(u, half, length)),
         LineBorderMode::Reflect => BorderSample::Inside(reflected_place(u, half, length)),
         LineBorderMode::Constant(value) => constant_sample(u, half, length, value),
-    }
-}
-
-// A constant border's value; 0 for the others.
-pub fn border_value(border: LineBorderMode) -> u8
-    ensures { λ r. ⌜ r ≡ borderValue border ⌝ }
-{
-    match border {
-        LineBorderMode::Replicate => 0,
-        LineBorderMode::Reflect => 0,
-        LineBorderMode::Constant(value) => value,
     }
 }

@@ -1,6 +1,6 @@
 // The four directions of a line, and the one nearest to an angle.
 ghost use mathlib.Core.Path.{_≡_};
-ghost use Rattle.raster.specs.Direction.{stepOf, directionIndex, halfTurn, nearest, fromAngle};
+ghost use Rattle.raster.specs.Direction.{stepOf, directionIndex, directionFrom, halfTurn, nearest, fromAngle};
 
 pub enum RasterDirection4 {
     Horizontal,
@@ -66,6 +66,18 @@ impl RasterDirection4 {
             RasterDirection4::DownRight => 1,
             RasterDirection4::Vertical => 2,
             RasterDirection4::DownLeft => 3,
+        }
+    }
+
+    // The direction of a number of a record, 0 to 3.
+    pub fn from_index(index: u8) -> Self
+        ensures { λ r. ⌜ r ≡ directionFrom index ⌝ }
+    {
+        match index {
+            0 => RasterDirection4::Horizontal,
+            1 => RasterDirection4::DownRight,
+            2 => RasterDirection4::Vertical,
+            _ => RasterDirection4::DownLeft,
         }
     }
 

@@ -1,8 +1,9 @@
 // The lines of a direction: how many, where each starts, how long it is, and how far apart its places are.
 ghost use mathlib.Core.Path.{_≡_};
-ghost use Prim.Native.Nat.{_≤_, _<_, _^_, min};
-ghost use Rattle.raster.specs.Lines.{Sides, lineCount, startCol, startRow, lengthFrom, lineAt, placeStep};
+ghost use Prim.Native.Nat.{_≤_, _<_, _^_};
+ghost use Rattle.raster.specs.Lines.{Sides, lineCount, startCol, startRow, lengthFrom, scanLineAt, placeStep};
 use crate::direction::RasterDirection4;
+use numbers::min_usize;
 
 // A line's first pixel and the number of its pixels.
 pub struct ScanLine {
@@ -47,12 +48,6 @@ fn start_row(direction: RasterDirection4, width: usize, k: usize) -> usize
     }
 }
 
-fn lesser(a: usize, b: usize) -> usize
-    ensures { λ r. ⌜ r ≡ min a b ⌝ }
-{
-    if a < b { a } else { b }
-}
-
 fn length_from(
     direction: RasterDirection4,
     width: usize,
@@ -65,16 +60,16 @@ fn length_from(
 {
     match direction {
         RasterDirection4::Horizontal => width - col,
-        RasterDirection4::DownRight => lesser(width - col, height - row),
+        RasterDirection4::DownRight => min_usize(width - col, height - row),
         RasterDirection4::Vertical => height - row,
-        RasterDirection4::DownLeft => lesser(col + 1, height - row),
+        RasterDirection4::DownLeft => min_usize(col + 1, height - row),
     }
 }
 
 // Line k of the direction.
 pub fn line_at(direction: RasterDirection4, width: usize, height: usize, k: usize) -> ScanLine
     requires { ⌜ Sides width height × (k < lineCount direction width height) ⌝ }
-    ensures { λ r. ⌜ r ≡ lineAt direction width height k ⌝ }
+    ensures { λ r. ⌜ r ≡ scanLineAt direction width height k ⌝ }
 {
     let col = start_col(direction, width, k);
     let row = start_row(direction, width, k);

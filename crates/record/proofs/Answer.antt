@@ -13,10 +13,13 @@ use lib.Ieee.Scale.{finite}
 use Rattle.numbers.proofs.Test.{false-not-true, false-of-not}
 use Rattle.record.specs.Bytes.{bytesOf}
 use Rattle.record.specs.Fields.{decoded, encoded, legal}
-use Rattle.record.specs.Record.{recordOf, fieldsOf, checked, recordFields, readRecord, toWrite, writeNumber, writeBytes, Wrote}
+use Rattle.record.specs.Record.{filterFrom, recordOf, fieldsOf, checked, recordFields, readFields, readRecord}
+use Rattle.record.specs.Record.{toWrite, writeNumber, writeBytes, Wrote}
 use Rattle.record.specs.declared.fields.Fields.{Fields}
 use Rattle.record.specs.declared.FieldsAnswer.{FieldsAnswer}
 use Rattle.record.specs.declared.FieldsAnswer.the-variants.{Legal, Broken}
+use Rattle.record.specs.declared.NamedFilter.the-variants.{Known, Unknown}
+use Rattle.record.specs.declared.RecordFilter.{RecordFilter}
 use Rattle.record.specs.declared.Record.{Record}
 use Rattle.record.specs.declared.ReadAnswer.the-variants as answer
 use Rattle.record.proofs.Legal.{sound}
@@ -24,31 +27,45 @@ use Rattle.record.proofs.Doubles.{not-finite-bits}
 
 -- ---- checked fields
 
-pub checked-legal : (f : Fields) → legal f ≡ true → checked f ≡ Legal f
-checked-legal f h = rw h
+module _ (k : RecordFilter) where
+  pub checked-legal : (f : Fields) → legal k f ≡ true → checked k f ≡ Legal f
+  checked-legal f h = rw h
 
-pub checked-broken : (f : Fields) → legal f ≡ false → checked f ≡ Broken
-checked-broken f h = rw h
+  pub checked-broken : (f : Fields) → legal k f ≡ false → checked k f ≡ Broken
+  checked-broken f h = rw h
 
-module _ (r : Record) (q : ℕ) where
-  pub angle-broken : finite (r .angle) ≡ false → legal (fieldsOf r q) ≡ false
-  unfolding fieldsOf
-  angle-broken h = false-of-not (legal (fieldsOf r q)) (λ e. false-not-true (not-finite-bits (r .angle) h) (sound (fieldsOf r q) e .angle))
+  module _ (r : Record) (q : ℕ) where
+    pub angle-broken : finite (r .angle) ≡ false → legal k (fieldsOf r q) ≡ false
+    unfolding fieldsOf
+    angle-broken h =
+        false-of-not (legal k (fieldsOf r q))
+        (λ e. false-not-true (not-finite-bits (r .angle) h) (sound (fieldsOf r q) k e .angle))
 
-  pub estimate-broken : finite (r .estimate) ≡ false → legal (fieldsOf r q) ≡ false
-  unfolding fieldsOf
-  estimate-broken h = false-of-not (legal (fieldsOf r q)) (λ e. false-not-true (not-finite-bits (r .estimate) h) (sound (fieldsOf r q) e .estimate))
+    pub estimate-broken : finite (r .estimate) ≡ false → legal k (fieldsOf r q) ≡ false
+    unfolding fieldsOf
+    estimate-broken h =
+        false-of-not (legal k (fieldsOf r q))
+        (λ e. false-not-true (not-finite-bits (r .estimate) h) (sound (fieldsOf r q) k e .estimate))
 
 -- ---- reading
 
-module _ (xs : List ℕ) where
-  pub read-legal : length xs ≡ 32 → legal (decoded xs) ≡ true → readRecord xs ≡ answer.Record (recordOf (decoded xs))
-  unfolding readRecord
-  read-legal l h = rw (l, h)
+module _ (f : Fields) {k : RecordFilter} where
+  pub fields-legal : filterFrom f ≡ Known k → legal k f ≡ true → readFields f ≡ answer.Record (recordOf k f)
+  unfolding readFields
+  fields-legal e h = rw (e, h)
 
-  pub read-broken : length xs ≡ 32 → legal (decoded xs) ≡ false → readRecord xs ≡ answer.Refused 13
+  pub fields-broken : filterFrom f ≡ Known k → legal k f ≡ false → readFields f ≡ answer.Refused 13
+  unfolding readFields
+  fields-broken e h = rw (e, h)
+
+pub fields-unknown : (f : Fields) → filterFrom f ≡ Unknown → readFields f ≡ answer.Refused 13
+unfolding readFields
+fields-unknown f e = rw e
+
+module _ (xs : List ℕ) where
+  pub read-whole : length xs ≡ 32 → readRecord xs ≡ readFields (decoded xs)
   unfolding readRecord
-  read-broken l h = rw (l, h)
+  read-whole l = rw l
 
   pub read-short : (length xs ≡ 32 → ⊥) → readRecord xs ≡ answer.Refused 13
   unfolding readRecord

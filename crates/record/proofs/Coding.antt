@@ -1,4 +1,5 @@
--- Bytes and fields determine each other: `decoded-encoded` of fields that are within their bytes, `encoded-decoded` of 32 bytes.
+-- Bytes and fields determine each other: `decoded-encoded` of fields that are within their bytes, `encoded-decoded` of
+-- 32 bytes.
 use mathlib.Core.Path.{_≡_, sym}
 use mathlib.Core.List.{List, [], _∷_, _++_}
 use Prim.Native.Nat.{ℕ, _+_, _^_, _≤_, _<_}
@@ -15,8 +16,8 @@ use Rattle.record.proofs.LittleEndian.{Bytes, number-lt, number-bytes, 
 
 -- the fields of more than a byte are within their bytes
 pub record InBytes (f : Fields) : Type 0 where
-  pub width : f .width < 256 ^ 2
-  pub height : f .height < 256 ^ 2
+  pub width : f .head .width < 256 ^ 2
+  pub height : f .head .height < 256 ^ 2
   pub «blur_length» : f .«blur_length» < 256 ^ 2
   pub iterations : f .iterations < 256 ^ 2
   pub q : f .q < 256 ^ 4
@@ -27,8 +28,8 @@ pub decoded-encoded : (f : Fields) → InBytes f → decoded (encoded f) ≡ f
 unfolding decoded encoded bytesOf
 decoded-encoded f b =
     rw (
-      number-bytes 2 (f .width) (b .width),
-      number-bytes 2 (f .height) (b .height),
+      number-bytes 2 (f .head .width) (b .width),
+      number-bytes 2 (f .head .height) (b .height),
       number-bytes 2 (f .«blur_length») (b .«blur_length»),
       number-bytes 2 (f .iterations) (b .iterations),
       number-bytes 4 (f .q) (b .q),
@@ -41,7 +42,8 @@ module _ (xs : List ℕ) (l : length xs ≡ 32) (bytes : Bytes xs) where
   room h = omega arith
 
   part-bytes : (a n : ℕ) → a + n ≤ 32 → Bytes (take n (drop a xs))
-  part-bytes a n h i b = each-part (λ (x : ℕ). x < 256) 0 xs bytes a n (room h) i (rw (length-part a n xs (room h)) at b)
+  part-bytes a n h i b =
+      each-part (λ (x : ℕ). x < 256) 0 xs bytes a n (room h) i (rw (length-part a n xs (room h)) at b)
 
   number-within : (a n : ℕ) → a + n ≤ 32 → numberAt xs a n < 256 ^ n
   number-within a n h = rw (length-part a n xs (room h)) at (number-lt (take n (drop a xs)) (part-bytes a n h))

@@ -34,13 +34,15 @@ pub number-pattern : (b : ℕ) → b % 0x8000_0000_0000_0000 ≤ 0x7ff0_0000_000
 number-pattern b h = rw (nanBits-above binary64 b, le-ltb _ _ h) tt
 
 pub nan-pattern : (b : ℕ) → 0x7ff0_0000_0000_0000 < b % 0x8000_0000_0000_0000 → finite (ofBits binary64 b) ≡ false
-nan-pattern b h = nan-not-finite (ofBits binary64 b) (sym (nanBits-is binary64 b) ∙ nanBits-above binary64 b ∙ lt-ltb _ _ h)
+nan-pattern b h =
+    nan-not-finite (ofBits binary64 b) (sym (nanBits-is binary64 b) ∙ nanBits-above binary64 b ∙ lt-ltb _ _ h)
 
 -- a finite pattern is a number's, and is the bits of what it stands for
 pub finite-pattern : (b : ℕ) → finite (ofBits binary64 b) ≡ true → T (not (nanBits binary64 b))
 finite-pattern b h = rw (nanBits-is binary64 b ∙ finite-number (ofBits binary64 b) h) tt
 
-pub bits-back : (b : ℕ) → b < 2 * top binary64 → finite (ofBits binary64 b) ≡ true → toBits binary64 (ofBits binary64 b) ≡ b
+pub bits-back : (b : ℕ) → b < 2 * top binary64 → finite (ofBits binary64 b) ≡ true
+    → toBits binary64 (ofBits binary64 b) ≡ b
 bits-back b l h = toBits-ofBits binary64 b l (not-nan (ofBits binary64 b) (finite-number (ofBits binary64 b) h))
 
 pub not-finite-bits : (x : Float) → finite x ≡ false → finite (ofBits binary64 (toBits binary64 x)) ≡ false

@@ -12,15 +12,18 @@ use Rattle.raster.specs.declared.direction.RasterDirection4.the-variants.{Horiz
 use Rattle.raster.specs.declared.border.LineBorderMode.the-variants.{Replicate}
 use Rattle.record.specs.Bytes.{littleEndian, bytesOf}
 use Rattle.record.specs.Fields.{decoded, encoded, legal}
-use Rattle.record.specs.Record.{recordOf, isFactor, filterQ, fieldsOf, recordFields, readRecord, toWrite, writeBytes, isJob}
+use Rattle.record.specs.Record.{recordOf, isFactor, filterQ, recordFields, readRecord, toWrite}
+use Rattle.record.specs.Record.{writeBytes, isJob}
 use Rattle.record.specs.declared.RecordFilter.the-variants.{Restoration, Unsharp}
 use Rattle.record.specs.declared.Record.{Record}
+use Rattle.record.specs.declared.ReadAnswer.{ReadAnswer}
 use Rattle.record.specs.declared.ReadAnswer.the-variants as answer
 
 -- ---- width 5, height 1, restoration, length 3, one iteration, q 65,536
 
 bytes : List ℕ
-bytes = 0x05 ∷ 0x00 ∷ 0x01 ∷ 0x00 ∷ 0x00 ∷ 0x00 ∷ 0x00 ∷ 0x01 ∷ 0x03 ∷ 0x00 ∷ 0x01 ∷ 0x00 ∷ 0x00 ∷ 0x00 ∷ 0x01 ∷ 0x00 ∷ replicate 16 0x00
+bytes =
+    5 ∷ 0 ∷ 1 ∷ 0 ∷ 0 ∷ 0 ∷ 0 ∷ 1 ∷ 3 ∷ 0 ∷ 1 ∷ 0 ∷ 0 ∷ 0 ∷ 1 ∷ 0 ∷ replicate 16 0
 
 job : Record
 job = record {
@@ -40,7 +43,7 @@ unfolding bytes job readRecord decoded legal recordOf littleEndian ofBits factor
 reads = refl
 
 writes : writeBytes (toWrite job (replicate 32 9)) (replicate 32 9) ≡ bytes
-unfolding bytes job toWrite recordFields filterQ isFactor fieldsOf quantized factorOf div ofInt encoded bytesOf legal toBits ofBits lt
+unfolding bytes job toWrite recordFields isFactor quantized factorOf div ofInt encoded bytesOf legal toBits ofBits lt
 writes = refl
 
 is-a-job : isJob job ≡ true
@@ -49,67 +52,84 @@ is-a-job = refl
 
 -- ---- both sides of each limit: bytes of the record above changed
 
+is-read : ReadAnswer → Bool
+is-read (answer.Record r) = true
+is-read (answer.Refused n) = false
+
 accepted : List ℕ → Bool
-accepted xs = legal (decoded xs)
+accepted xs = is-read (readRecord xs)
 
 -- length on 5 by 1: 11, 13, 4, 0 (the whole job)
 lengths :
-    map accepted (set bytes 8 11 ∷ set bytes 8 13 ∷ set bytes 8 4 ∷ set bytes 8 0 ∷ []) ≡ true ∷ false ∷ false ∷ true ∷ []
-unfolding accepted bytes decoded legal littleEndian ofBits lt
+    map accepted (set bytes 8 11 ∷ set bytes 8 13 ∷ set bytes 8 4 ∷ set bytes 8 0 ∷ [])
+    ≡ true ∷ false ∷ false ∷ true ∷ []
+unfolding is-read accepted bytes readRecord decoded legal recordOf littleEndian ofBits lt
 lengths = refl
 
 -- the whole job with a direction, with an angle, with an estimate
 whole-jobs :
-    map accepted (set (set bytes 8 0) 4 1 ∷ set (set bytes 8 0) 23 128 ∷ set (set bytes 8 0) 24 1 ∷ []) ≡ false ∷ false ∷ false ∷ []
-unfolding accepted bytes decoded legal littleEndian ofBits lt
+    map accepted (set (set bytes 8 0) 4 1 ∷ set (set bytes 8 0) 23 128 ∷ set (set bytes 8 0) 24 1 ∷ [])
+    ≡ false ∷ false ∷ false ∷ []
+unfolding is-read accepted bytes readRecord decoded legal recordOf littleEndian ofBits lt
 whole-jobs = refl
 
 -- iterations 22, 23, 0
 iterations :
     map accepted (set bytes 10 22 ∷ set bytes 10 23 ∷ set bytes 10 0 ∷ []) ≡ true ∷ false ∷ false ∷ []
-unfolding accepted bytes decoded legal littleEndian ofBits lt
+unfolding is-read accepted bytes readRecord decoded legal recordOf littleEndian ofBits lt
 iterations = refl
 
 -- q 0, 65,537
 factors :
     map accepted (set bytes 14 0 ∷ set bytes 12 1 ∷ []) ≡ true ∷ false ∷ []
-unfolding accepted bytes decoded legal littleEndian ofBits lt
+unfolding is-read accepted bytes readRecord decoded legal recordOf littleEndian ofBits lt
 factors = refl
 
 -- direction 3, 4
 directions :
     map accepted (set bytes 4 3 ∷ set bytes 4 4 ∷ []) ≡ true ∷ false ∷ []
-unfolding accepted bytes decoded legal littleEndian ofBits lt
+unfolding is-read accepted bytes readRecord decoded legal recordOf littleEndian ofBits lt
 directions = refl
 
 -- border 2, 3; value 7 with Constant, with Replicate
 borders :
-    map accepted (set bytes 5 2 ∷ set bytes 5 3 ∷ set (set bytes 5 2) 6 7 ∷ set bytes 6 7 ∷ []) ≡ true ∷ false ∷ true ∷ false ∷ []
-unfolding accepted bytes decoded legal littleEndian ofBits lt
+    map accepted (set bytes 5 2 ∷ set bytes 5 3 ∷ set (set bytes 5 2) 6 7 ∷ set bytes 6 7 ∷ [])
+    ≡ true ∷ false ∷ true ∷ false ∷ []
+unfolding is-read accepted bytes readRecord decoded legal recordOf littleEndian ofBits lt
 borders = refl
 
 -- filter 0, 4; line unsharp with 0 and with 1 iterations; the binomial with all else 0, and not
 filters :
-    map accepted (set bytes 7 0 ∷ set bytes 7 4 ∷ set (set bytes 7 2) 10 0 ∷ set bytes 7 2 ∷ set (set (set (set bytes 7 3) 8 0) 10 0) 14 0 ∷ set bytes 7 3 ∷ []) ≡ false ∷ false ∷ true ∷ false ∷ true ∷ false ∷ []
-unfolding accepted bytes decoded legal littleEndian ofBits lt
+    map accepted
+    (set bytes 7 0
+    ∷ set bytes 7 4
+    ∷ set (set bytes 7 2) 10 0
+    ∷ set bytes 7 2
+    ∷ set (set (set (set bytes 7 3) 8 0) 10 0) 14 0
+    ∷ set bytes 7 3
+    ∷ [])
+    ≡ false ∷ false ∷ true ∷ false ∷ true ∷ false ∷ []
+unfolding is-read accepted bytes readRecord decoded legal recordOf littleEndian ofBits lt
 filters = refl
 
 -- width 0, 1,024, 1,025
 widths :
     map accepted (set bytes 0 0 ∷ set (set bytes 0 0) 1 4 ∷ set (set bytes 0 1) 1 4 ∷ []) ≡ false ∷ true ∷ false ∷ []
-unfolding accepted bytes decoded legal littleEndian ofBits lt
+unfolding is-read accepted bytes readRecord decoded legal recordOf littleEndian ofBits lt
 widths = refl
 
 -- angle -0.0, infinity, not a number
 angles :
-    map accepted (set bytes 23 128 ∷ set (set bytes 22 240) 23 127 ∷ set (set bytes 22 248) 23 127 ∷ []) ≡ true ∷ false ∷ false ∷ []
-unfolding accepted bytes decoded legal littleEndian ofBits lt
+    map accepted (set bytes 23 128 ∷ set (set bytes 22 240) 23 127 ∷ set (set bytes 22 248) 23 127 ∷ [])
+    ≡ true ∷ false ∷ false ∷ []
+unfolding is-read accepted bytes readRecord decoded legal recordOf littleEndian ofBits lt
 angles = refl
 
 -- estimate 2^-1074, -0.0, below 0, infinity
 estimates :
-    map accepted (set bytes 24 1 ∷ set bytes 31 128 ∷ set (set bytes 24 1) 31 128 ∷ set (set bytes 30 240) 31 127 ∷ []) ≡ true ∷ false ∷ false ∷ false ∷ []
-unfolding accepted bytes decoded legal littleEndian ofBits lt
+    map accepted (set bytes 24 1 ∷ set bytes 31 128 ∷ set (set bytes 24 1) 31 128 ∷ set (set bytes 30 240) 31 127 ∷ [])
+    ≡ true ∷ false ∷ false ∷ false ∷ []
+unfolding is-read accepted bytes readRecord decoded legal recordOf littleEndian ofBits lt
 estimates = refl
 
 -- a byte too few, a byte too many

@@ -1,35 +1,26 @@
--- What the limits say of fields: which limits a filter's number picks, and what legal fields are (`Sound`).
+-- What the limits say of fields (`sound`), and which filter fields name (`Named`).
 use mathlib.Core.Path.{_≡_, sym, _∙_}
 use mathlib.Core.Bool.{Bool, true, false, _&&_, false≢true, and-eq-true-iff}
 use mathlib.Core.Logic.{⊎-elim}
-use Prim.Native.Nat.{ℕ, _≤_}
+use Prim.Native.Nat.{ℕ, _+_, _*_, _%_, _≤_, max}
 use native.Mathlib.Omega.{arith}
 use borrow.Author.Tests.{leb-true, eqb-true, eqb-false, ne-eqb}
-use lib.Dec.{eqb}
+use lib.Dec.{leb, eqb}
 use lib.Ieee.{binary64, ofBits}
 use lib.Ieee.Scale.{finite}
 use Rattle.numbers.proofs.Test.{by-test, or-cases, false-of-not}
-use Rattle.record.specs.Fields.{sideLegal, borderLegal, estimateLegal, lineLegal, restorationLegal, unsharpLegal, binomialLegal, filterLegal, legal}
+use Rattle.floats.specs.Factor.{factorOf}
+use Rattle.raster.specs.Border.{isBorder}
+use Rattle.raster.specs.declared.border.LineBorderMode.the-variants.{Replicate}
+use Rattle.raster.proofs.Codes.{is-border}
+use Rattle.record.specs.Fields.{headLegal, lengthLegal, estimateLegal, lineLegal, iteratedLegal, unmeasured}
+use Rattle.record.specs.Fields.{filterLegal}
+use Rattle.record.specs.Fields.{legal}
+use Rattle.record.specs.Record.{filterFrom}
 use Rattle.record.specs.declared.fields.Fields.{Fields}
-
--- ---- the limits that a filter's number picks
-
-module _ (f : Fields) where
-  pub filter-restoration : f .filter ≡ 1 → filterLegal f ≡ restorationLegal f
-  unfolding filterLegal
-  filter-restoration e = rw e
-
-  pub filter-unsharp : f .filter ≡ 2 → filterLegal f ≡ unsharpLegal f
-  unfolding filterLegal
-  filter-unsharp e = rw e
-
-  pub filter-binomial : f .filter ≡ 3 → filterLegal f ≡ binomialLegal f
-  unfolding filterLegal
-  filter-binomial e = rw e
-
-  pub filter-unknown : (f .filter ≡ 1 → ⊥) → (f .filter ≡ 2 → ⊥) → (f .filter ≡ 3 → ⊥) → filterLegal f ≡ false
-  unfolding filterLegal
-  filter-unknown a b c = rw (ne-eqb (f .filter) 1 a, ne-eqb (f .filter) 2 b, ne-eqb (f .filter) 3 c)
+use Rattle.record.specs.declared.NamedFilter.the-variants.{Known, Unknown}
+use Rattle.record.specs.declared.RecordFilter.{RecordFilter}
+use Rattle.record.specs.declared.RecordFilter.the-variants.{WholeJob, Restoration, Unsharp, Binomial}
 
 -- ---- the bits 0 are a finite double's
 
@@ -39,83 +30,134 @@ zero-finite b e = rw e
 
 pub estimate-finite : (b : ℕ) → estimateLegal b ≡ true → finite (ofBits binary64 b) ≡ true
 estimate-finite b h =
-    ⊎-elim (λ z. zero-finite b (eqb-true b 0 z)) (λ p. and-eq-true-iff (finite (ofBits binary64 b)) _ .0 p .0) (or-cases (eqb b 0) _ h)
+    ⊎-elim (λ z. zero-finite b (eqb-true b 0 z)) (λ p. and-eq-true-iff (finite (ofBits binary64 b)) _ .0 p .0)
+    (or-cases (eqb b 0) _ h)
 
 pub estimate-refused : (b : ℕ) → finite (ofBits binary64 b) ≡ false → estimateLegal b ≡ false
 estimate-refused b h = false-of-not (estimateLegal b) (λ e. false≢true (sym h ∙ estimate-finite b e))
 
 -- ---- legal fields
 
--- the filter, with the bound on its q
-pub data FilterSound (filter q : ℕ) : Type 0 where
-  restoration : filter ≡ 1 → q ≤ 65536 → FilterSound filter q
-  unsharp : filter ≡ 2 → q ≤ 524288 → FilterSound filter q
-  binomial : filter ≡ 3 → q ≡ 0 → FilterSound filter q
+-- what each filter's limits say of length and q, and the binomial's of the doubles
+abbrev pub FilterSound : RecordFilter → Fields → Type 0
+FilterSound (WholeJob x) f = (f .«blur_length» ≡ 0) × (f .q ≤ 65536)
+FilterSound (Restoration x) f = (3 ≤ f .«blur_length») × (f .q ≤ 65536)
+FilterSound (Unsharp x) f = f .q ≤ 524288
+FilterSound Binomial f = (f .q ≡ 0) × (f .angle ≡ 0) × (f .estimate ≡ 0)
 
-pub record Sound (f : Fields) : Type 0 where
+pub record Sound (k : RecordFilter) (f : Fields) : Type 0 where
   pub direction : f .direction ≤ 3
-  pub border : borderLegal (f .border) (f .value) ≡ true
-  pub filter : FilterSound (f .filter) (f .q)
+  pub border : isBorder (f .border) (f .value) ≡ true
+  pub filter : FilterSound k f
   pub angle : finite (ofBits binary64 (f .angle)) ≡ true
   pub estimate : finite (ofBits binary64 (f .estimate)) ≡ true
+
+record Unmeasured (f : Fields) : Type 0 where
+  direction : f .direction ≡ 0
+  blur-length : f .«blur_length» ≡ 0
+  angle : f .angle ≡ 0
+  estimate : f .estimate ≡ 0
 
 pub both : (a b : Bool) → (a && b) ≡ true → (a ≡ true) × (b ≡ true)
 both a b h = and-eq-true-iff a b .0 h
 
+length-least : (width height L : ℕ) → lengthLegal width height L ≡ true → 3 ≤ L
+length-least width height L h =
+    let p = both (eqb (L % 2) 1 && leb 3 L) (leb L (2 * max width height + 1)) h in
+    leb-true 3 L (both (eqb (L % 2) 1) (leb 3 L) (p .0) .1)
+
 module _ (f : Fields) where
-  line-sound : FilterSound (f .filter) (f .q) → lineLegal f ≡ true → Sound f
+  line-sound : {k : RecordFilter} → FilterSound k f → lineLegal f ≡ true → Sound k f
   unfolding lineLegal
-  line-sound k h =
+  line-sound s h =
       let e = both _ _ h in
       let a = both _ _ (e .0) in
       let b = both _ _ (a .0) in
       record {
         direction = leb-true _ _ (b .0);
         border = b .1;
-        filter = k;
+        filter = s;
         angle = a .1;
         estimate = estimate-finite (f .estimate) (e .1);
       }
 
-  restoration-sound : f .filter ≡ 1 → restorationLegal f ≡ true → Sound f
-  unfolding restorationLegal
-  restoration-sound k h =
-      let q = both _ _ h in
-      line-sound (restoration k (leb-true _ _ (q .1))) (both _ _ (both _ _ (both _ _ (q .0) .0) .0) .0)
+  iterated : iteratedLegal f ≡ true → (lineLegal f ≡ true) × (f .q ≤ 65536)
+  unfolding iteratedLegal
+  iterated h = let q = both _ _ h in (both _ _ (both _ _ (q .0) .0) .0, leb-true _ _ (q .1))
 
-  unsharp-sound : f .filter ≡ 2 → unsharpLegal f ≡ true → Sound f
-  unfolding unsharpLegal
-  unsharp-sound k h =
-      let q = both _ _ h in
-      line-sound (unsharp k (leb-true _ _ (q .1))) (both _ _ (both _ _ (q .0) .0) .0)
-
-  binomial-sound : f .filter ≡ 3 → binomialLegal f ≡ true → Sound f
-  binomial-sound k h =
+  no-measure : unmeasured f ≡ true → Unmeasured f
+  no-measure h =
       let e = both _ _ h in
       let a = both _ _ (e .0) in
-      let q = both _ _ (a .0) in
-      let i = both _ _ (q .0) in
-      let l = both _ _ (i .0) in
-      let v = both _ _ (l .0) in
-      let b = both _ _ (v .0) in
+      let l = both _ _ (a .0) in
       record {
-        direction = let d : f .direction ≡ 0 = eqb-true _ _ (b .0) in omega arith;
-        border = rw (eqb-true (f .border) 0 (b .1), eqb-true (f .value) 0 (v .1));
-        filter = binomial k (eqb-true _ _ (q .1));
-        angle = zero-finite (f .angle) (eqb-true _ _ (a .1));
-        estimate = zero-finite (f .estimate) (eqb-true _ _ (e .1));
+        direction = eqb-true _ _ (l .0);
+        blur-length = eqb-true _ _ (l .1);
+        angle = eqb-true _ _ (a .1);
+        estimate = eqb-true _ _ (e .1);
       }
 
-  pub sound : legal f ≡ true → Sound f
+  filter-sound : (k : RecordFilter) → filterLegal k f ≡ true → Sound k f
+  unfolding filterLegal
+  filter-sound (WholeJob x) h =
+      let w = both (iteratedLegal f) (unmeasured f) h in
+      let i = iterated (w .0) in
+      line-sound (no-measure (w .1) .blur-length, i .1) (i .0)
+  filter-sound (Restoration x) h =
+      let l = both _ _ h in
+      let i = iterated (l .0) in
+      line-sound (length-least (f .head .width) (f .head .height) (f .«blur_length») (l .1), i .1) (i .0)
+  filter-sound (Unsharp x) h =
+      let q = both _ _ h in
+      line-sound (leb-true _ _ (q .1)) (both _ _ (both _ _ (q .0) .0) .0)
+  filter-sound Binomial h =
+      let q = both _ _ h in
+      let v = both _ _ (both _ _ (q .0) .0) in
+      let b = both _ _ (v .0) in
+      let m = no-measure (b .0) in
+      record {
+        direction = let d = m .direction in omega arith;
+        border = rw (eqb-true (f .border) 0 (b .1), eqb-true (f .value) 0 (v .1)) (is-border Replicate);
+        filter = (eqb-true _ _ (q .1), m .angle, m .estimate);
+        angle = zero-finite (f .angle) (m .angle);
+        estimate = zero-finite (f .estimate) (m .estimate);
+      }
+
+  pub sound : (k : RecordFilter) → legal k f ≡ true → Sound k f
   unfolding legal
-  sound h =
-      let p : filterLegal f ≡ true = both (sideLegal (f .width) && sideLegal (f .height)) (filterLegal f) h .1 in
-      by-test (eqb (f .filter) 1)
-      (λ e. let k = eqb-true _ _ e in restoration-sound k (sym (filter-restoration f k) ∙ p))
-      (λ a.
-      by-test (eqb (f .filter) 2)
-      (λ e. let k = eqb-true _ _ e in unsharp-sound k (sym (filter-unsharp f k) ∙ p))
-      (λ b.
-      by-test (eqb (f .filter) 3)
-      (λ e. let k = eqb-true _ _ e in binomial-sound k (sym (filter-binomial f k) ∙ p))
-      (λ c. absurd (false≢true (sym (filter-unknown f (eqb-false _ _ a) (eqb-false _ _ b) (eqb-false _ _ c)) ∙ p)))))
+  sound k h = filter-sound k (both (headLegal (f .head)) (filterLegal k f) h .1)
+
+-- ---- the filter that fields name
+
+pub data Named (f : Fields) (k : RecordFilter) : Type 0 where
+  whole-job : k ≡ WholeJob (factorOf (f .q)) → f .head .filter ≡ 1 → f .«blur_length» ≡ 0 → Named f k
+  restoration : k ≡ Restoration (factorOf (f .q)) → f .head .filter ≡ 1 → (f .«blur_length» ≡ 0 → ⊥) → Named f k
+  unsharp : k ≡ Unsharp (factorOf (f .q)) → f .head .filter ≡ 2 → Named f k
+  binomial : k ≡ Binomial → f .head .filter ≡ 3 → Named f k
+
+pub filter-named : (f : Fields) (k : RecordFilter) → Named f k → filterFrom f ≡ Known k
+unfolding filterFrom
+filter-named f k (whole-job e n z) = rw (e, n, z)
+filter-named f k (restoration e n z) = rw (e, n, ne-eqb (f .«blur_length») 0 z)
+filter-named f k (unsharp e n) = rw (e, n)
+filter-named f k (binomial e n) = rw (e, n)
+
+same-filter : {k l : RecordFilter} → Known k ≡ Known l → l ≡ k
+same-filter e = cc
+
+never-known : {k : RecordFilter} → Unknown ≡ Known k → ⊥
+never-known e = let z : _≡_ {A = ℕ} 0 1 = cc in omega arith
+
+pub named : (f : Fields) (k : RecordFilter) → filterFrom f ≡ Known k → Named f k
+unfolding filterFrom
+named f k e =
+    by-test (eqb (f .head .filter) 1)
+    (λ a.
+    by-test (eqb (f .«blur_length») 0)
+    (λ z. whole-job (same-filter (rw (a, z) at e)) (eqb-true _ _ a) (eqb-true _ _ z))
+    (λ z. restoration (same-filter (rw (a, z) at e)) (eqb-true _ _ a) (eqb-false _ _ z)))
+    (λ a.
+    by-test (eqb (f .head .filter) 2) (λ b. unsharp (same-filter (rw (a, b) at e)) (eqb-true _ _ b))
+    (λ b.
+    by-test (eqb (f .head .filter) 3) (λ c. binomial (same-filter (rw (a, b, c) at e)) (eqb-true _ _ c))
+    (λ c. absurd (never-known (rw (a, b, c) at e)))))

@@ -1,4 +1,5 @@
--- Laws of little-endian numbers, over the number of bytes: a number's bound, that bytes and number determine each other, one byte more in front.
+-- Laws of little-endian numbers, over the number of bytes: a number's bound, that bytes and number determine each
+-- other, one byte more in front.
 use mathlib.Core.Path.{_≡_, refl}
 use mathlib.Core.List.{List, [], _∷_}
 use Prim.Native.Nat.{ℕ, zero, suc, _+_, _-_, _*_, _/_, _%_, _^_, _≤_, _<_, suc-le-suc}
@@ -40,26 +41,30 @@ bytes-number (b ∷ bs) h =
     rw (low, high, bytes-number bs (rest b bs h))
 
 -- a byte in front of n others
-number-more : (xs : List ℕ) (a n : ℕ) → a < length xs → numberAt xs a (suc n) ≡ getD xs a 0 + 256 * numberAt xs (suc a) n
+number-more : (xs : List ℕ) (a n : ℕ) → a < length xs
+    → numberAt xs a (suc n) ≡ getD xs a 0 + 256 * numberAt xs (suc a) n
 unfolding littleEndian
 number-more xs a n h = rw (drop-cons xs a 0 h)
 
 -- ---- the loop that reads: of `count` bytes all but the first `left` are passed, and v is their number
 
-module _ (xs : List ℕ) (at count left v : ℕ) (some : 0 < left) (within : left ≤ count) (room : at + count ≤ length xs) (b : getD xs (at + (left - 1)) 0 < 256) where
+module _ (xs : List ℕ) (at count left v : ℕ) (some : 0 < left) (within : left ≤ count)
+    (room : at + count ≤ length xs) (b : getD xs (at + (left - 1)) 0 < 256) where
   one-more : count - (left - 1) ≡ suc (count - left)
   one-more = omega arith
 
   next : at + left ≡ suc (at + (left - 1))
   next = omega arith
 
-  pub turn-is : v ≡ numberAt xs (at + left) (count - left) → v * 256 + getD xs (at + (left - 1)) 0 ≡ numberAt xs (at + (left - 1)) (count - (left - 1))
-  turn-is e =
+  pub number-turn : v ≡ numberAt xs (at + left) (count - left) → v < 256 ^ (count - left)
+      → (v * 256 + getD xs (at + (left - 1)) 0 ≡ numberAt xs (at + (left - 1)) (count - (left - 1)))
+      × (v * 256 + getD xs (at + (left - 1)) 0 < 256 ^ (count - (left - 1)))
+  number-turn e h =
       let e′ : v ≡ numberAt xs (suc (at + (left - 1))) (count - left) = rw next at e in
-      rw one-more (omega (arith, number-more xs (at + (left - 1)) (count - left) (omega arith)))
-
-  pub turn-lt : v < 256 ^ (count - left) → v * 256 + getD xs (at + (left - 1)) 0 < 256 ^ (count - (left - 1))
-  turn-lt h = rw one-more (omega (arith, pow-succ' 256 (count - left)))
+      rw one-more (
+        omega (arith, number-more xs (at + (left - 1)) (count - left) (omega arith)),
+        omega (arith, pow-succ' 256 (count - left)),
+      )
 
 pub within-word : (n : ℕ) → n ≤ 8 → 256 ^ n ≤ 2 ^ 64
 within-word n h = pow-le-pow-right (lit≤ tt) h
@@ -67,7 +72,8 @@ within-word n h = pow-le-pow-right (lit≤ tt) h
 -- ---- the loop that writes: a turn stores the lowest byte of what is left
 
 pub put-turn : (xs : List ℕ) (at count done v : ℕ) → done < count
-    → sets (set xs (at + done) (v % 256)) (at + (done + 1)) (bytesOf (count - (done + 1)) (v / 256)) ≡ sets xs (at + done) (bytesOf (count - done) v)
+    → sets (set xs (at + done) (v % 256)) (at + (done + 1)) (bytesOf (count - (done + 1)) (v / 256))
+    ≡ sets xs (at + done) (bytesOf (count - done) v)
 unfolding bytesOf
 put-turn xs at count done v h =
     let e : count - done ≡ suc (count - (done + 1)) = omega arith in

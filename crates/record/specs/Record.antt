@@ -1,4 +1,5 @@
--- Document 01, "The 32-byte record": what a record's fields stand for, what reading and writing answer, which records are jobs, and what a result adds.
+-- Document 01, "The 32-byte record": what a record's fields stand for, what reading and writing answer, which records
+-- are jobs, and what a result adds.
 use mathlib.Core.Path.{_≡_}
 use mathlib.Core.Bool.{Bool, _&&_, cond}
 use mathlib.Core.List.{List}
@@ -10,45 +11,39 @@ use lib.Ieee.Scale.{finite}
 use Rattle.floats.specs.Factor.{quantized, factorOf}
 use Rattle.floats.specs.declared.Quantized.{Quantized}
 use Rattle.floats.specs.declared.Quantized.the-variants.{Q16, Refused}
-use Rattle.raster.specs.Direction.{directionIndex}
-use Rattle.raster.specs.Border.{borderValue}
+use Rattle.raster.specs.Direction.{directionIndex, directionFrom}
+use Rattle.raster.specs.Border.{borderCode, borderValue, borderFrom}
 use Rattle.raster.specs.declared.direction.RasterDirection4.{RasterDirection4}
-use Rattle.raster.specs.declared.direction.RasterDirection4.the-variants.{Horizontal, DownRight, Vertical, DownLeft}
-use Rattle.raster.specs.declared.border.LineBorderMode.{LineBorderMode}
-use Rattle.raster.specs.declared.border.LineBorderMode.the-variants.{Replicate, Reflect, Constant}
 use Rattle.record.specs.Fields.{decoded, encoded, legal}
 use Rattle.record.specs.declared.fields.Fields.{Fields}
 use Rattle.record.specs.declared.FieldsAnswer.{FieldsAnswer}
 use Rattle.record.specs.declared.FieldsAnswer.the-variants.{Legal, Broken}
+use Rattle.record.specs.declared.NamedFilter.{NamedFilter}
+use Rattle.record.specs.declared.NamedFilter.the-variants.{Known, Unknown}
 use Rattle.record.specs.declared.RecordFilter.{RecordFilter}
-use Rattle.record.specs.declared.RecordFilter.the-variants.{Restoration, Unsharp, Binomial}
+use Rattle.record.specs.declared.RecordFilter.the-variants.{WholeJob, Restoration, Unsharp, Binomial}
 use Rattle.record.specs.declared.Record.{Record}
 use Rattle.record.specs.declared.ReadAnswer.{ReadAnswer}
 use Rattle.record.specs.declared.ReadAnswer.the-variants as answer
 
 -- ---- from fields to a record
 
--- 0 to 3 in the order Horizontal, DownRight, Vertical, DownLeft
-abbrev pub directionFrom : ℕ → RasterDirection4
-directionFrom d = cond (eqb d 0) Horizontal (cond (eqb d 1) DownRight (cond (eqb d 2) Vertical DownLeft))
-
--- 0 Replicate, 1 Reflect, 2 Constant
-abbrev pub borderFrom : ℕ → ℕ → LineBorderMode
-borderFrom border value = cond (eqb border 0) Replicate (cond (eqb border 1) Reflect (Constant value))
-
--- 1 restoration, 2 line unsharp, 3 binomial; the factor is q / 65,536
-unfoldable pub filterFrom : ℕ → ℕ → RecordFilter
-filterFrom filter q = cond (eqb filter 1) (Restoration (factorOf q)) (cond (eqb filter 2) (Unsharp (factorOf q)) Binomial)
+-- 1 restoration, of length 0 the whole job, 2 line unsharp, 3 binomial; the factor is q / 65,536
+unfoldable pub filterFrom : Fields → NamedFilter
+filterFrom f =
+    cond (eqb (f .head .filter) 1)
+    (cond (eqb (f .«blur_length») 0) (Known (WholeJob (factorOf (f .q)))) (Known (Restoration (factorOf (f .q)))))
+    (cond (eqb (f .head .filter) 2) (Known (Unsharp (factorOf (f .q))))
+    (cond (eqb (f .head .filter) 3) (Known Binomial) Unknown))
 
 -- angle and estimate as double bits
-unfoldable pub recordOf : Fields → Record
-unfolding filterFrom
-recordOf f = record {
-  width = f .width;
-  height = f .height;
+unfoldable pub recordOf : RecordFilter → Fields → Record
+recordOf k f = record {
+  width = f .head .width;
+  height = f .head .height;
   direction = directionFrom (f .direction);
   border = borderFrom (f .border) (f .value);
-  filter = filterFrom (f .filter) (f .q);
+  filter = k;
   «blur_length» = f .«blur_length»;
   iterations = f .iterations;
   angle = ofBits binary64 (f .angle);
@@ -57,14 +52,9 @@ recordOf f = record {
 
 -- ---- from a record to fields
 
--- 0 Replicate, 1 Reflect, 2 Constant
-abbrev pub borderCode : LineBorderMode → ℕ
-borderCode Replicate = 0
-borderCode Reflect = 1
-borderCode (Constant v) = 2
-
 -- 1 restoration, 2 line unsharp, 3 binomial
 abbrev pub filterCode : RecordFilter → ℕ
+filterCode (WholeJob x) = 1
 filterCode (Restoration x) = 1
 filterCode (Unsharp x) = 2
 filterCode Binomial = 3
@@ -80,6 +70,7 @@ exactQ Refused x = Refused
 
 -- a relaxation lies in 0..1, a gain in 0..8; the binomial has q 0
 unfoldable pub filterQ : RecordFilter → Quantized
+filterQ (WholeJob x) = exactQ (quantized 1 x) x
 filterQ (Restoration x) = exactQ (quantized 1 x) x
 filterQ (Unsharp x) = exactQ (quantized 8 x) x
 filterQ Binomial = Q16 0
@@ -87,12 +78,10 @@ filterQ Binomial = Q16 0
 -- the fields as numbers, with the filter's q; angle and estimate as double bits
 unfoldable pub fieldsOf : Record → ℕ → Fields
 fieldsOf r q = record {
-  width = r .width;
-  height = r .height;
+  head = record { width = r .width; height = r .height; filter = filterCode (r .filter) };
   direction = directionIndex (r .direction);
   border = borderCode (r .border);
   value = borderValue (r .border);
-  filter = filterCode (r .filter);
   «blur_length» = r .«blur_length»;
   iterations = r .iterations;
   q = q;
@@ -101,12 +90,12 @@ fieldsOf r q = record {
 }
 
 -- fields that break no limit
-abbrev pub checked : Fields → FieldsAnswer
-checked f = cond (legal f) (Legal f) Broken
+abbrev pub checked : RecordFilter → Fields → FieldsAnswer
+checked k f = cond (legal k f) (Legal f) Broken
 
 -- a record whose factor is no q / 65,536 breaks its layout too
 abbrev pub withQ : Record → Quantized → FieldsAnswer
-withQ r (Q16 q) = checked (fieldsOf r q)
+withQ r (Q16 q) = checked (r .filter) (fieldsOf r q)
 withQ r Refused = Broken
 
 -- a record's fields, or that they break its layout
@@ -116,8 +105,17 @@ recordFields r = withQ r (filterQ (r .filter))
 
 -- ---- reading and writing: 13 for a record that breaks its layout and for a slice that is not 32 bytes long
 
+abbrev pub readAs : NamedFilter → Fields → ReadAnswer
+readAs (Known k) f = cond (legal k f) (answer.Record (recordOf k f)) (answer.Refused 13)
+readAs Unknown f = answer.Refused 13
+
+unfoldable pub readFields : Fields → ReadAnswer
+unfolding filterFrom
+readFields f = readAs (filterFrom f) f
+
 unfoldable pub readRecord : List ℕ → ReadAnswer
-readRecord xs = cond (eqb (length xs) 32 && legal (decoded xs)) (answer.Record (recordOf (decoded xs))) (answer.Refused 13)
+unfolding readFields
+readRecord xs = cond (eqb (length xs) 32) (readFields (decoded xs)) (answer.Refused 13)
 
 -- what there is to write into the slice
 unfoldable pub toWrite : Record → List ℕ → FieldsAnswer
@@ -142,6 +140,13 @@ pub record Wrote (r : Record) (old new : List ℕ) (number : ℕ) : Type 0 where
 unfoldable pub isJob : Record → Bool
 isJob r = eqb (directionIndex (r .direction)) 0 && eqb (toBits binary64 (r .estimate)) 0
 
+-- a whole job's result is that of the restoration that it came to
+abbrev pub usedFilter : RecordFilter → RecordFilter
+usedFilter (WholeJob x) = Restoration x
+usedFilter (Restoration x) = Restoration x
+usedFilter (Unsharp x) = Unsharp x
+usedFilter Binomial = Binomial
+
 -- "A result adds direction, length and estimate used."
 abbrev pub usedIn : Record → RasterDirection4 → ℕ → Float → Record
 usedIn r d L estimate = record {
@@ -149,7 +154,7 @@ usedIn r d L estimate = record {
   height = r .height;
   direction = d;
   border = r .border;
-  filter = r .filter;
+  filter = usedFilter (r .filter);
   «blur_length» = L;
   iterations = r .iterations;
   angle = r .angle;

@@ -1,23 +1,40 @@
-// The fields of a record as numbers, in the order of its bytes.
+// The fields of a record as numbers.
 use crate::bytes::number_at;
 use crate::bytes::put_number;
 ghost use mathlib.Core.Path.{_≡_};
 ghost use lib.ListN.{length};
 ghost use lib.Seq.{sets};
-ghost use Rattle.record.specs.Fields.{decoded, headBytes, countBytes, doubleBytes, encoded};
+ghost use Rattle.record.specs.Fields.{decodedHead, decoded, headBytes, countBytes, doubleBytes, encoded};
 
-pub(crate) struct Fields {
+// What every record has, whatever its filter.
+pub(crate) struct Head {
     pub(crate) width: u16,
     pub(crate) height: u16,
+    pub(crate) filter: u8,
+}
+
+pub(crate) struct Fields {
+    pub(crate) head: Head,
     pub(crate) direction: u8,
     pub(crate) border: u8,
     pub(crate) value: u8,
-    pub(crate) filter: u8,
     pub(crate) blur_length: u16,
     pub(crate) iterations: u16,
     pub(crate) q: u32,
     pub(crate) angle: u64,
     pub(crate) estimate: u64,
+}
+
+// The head in 32 bytes.
+pub(crate) fn head_in(bytes: &[u8]) -> Head
+    requires { ⌜ length (now bytes) ≡ 32 ⌝ }
+    ensures { λ r. ⌜ r ≡ decodedHead (now (bytes .entry)) ⌝ }
+{
+    Head {
+        width: number_at(bytes, 0, 2) as u16,
+        height: number_at(bytes, 2, 2) as u16,
+        filter: bytes[7],
+    }
 }
 
 // The fields in 32 bytes.
@@ -26,12 +43,10 @@ pub(crate) fn fields_in(bytes: &[u8]) -> Fields
     ensures { λ r. ⌜ r ≡ decoded (now (bytes .entry)) ⌝ }
 {
     Fields {
-        width: number_at(bytes, 0, 2) as u16,
-        height: number_at(bytes, 2, 2) as u16,
+        head: head_in(bytes),
         direction: bytes[4],
         border: bytes[5],
         value: bytes[6],
-        filter: bytes[7],
         blur_length: number_at(bytes, 8, 2) as u16,
         iterations: number_at(bytes, 10, 2) as u16,
         q: number_at(bytes, 12, 4) as u32,
@@ -45,12 +60,12 @@ fn put_head(fields: Fields, bytes: &mut [u8])
     requires { ⌜ length (now bytes) ≡ 32 ⌝ }
     ensures { λ _. ⌜ now (bytes .exit) ≡ sets (now (bytes .entry)) 0 (headBytes fields) ⌝ }
 {
-    put_number(bytes, 0, 2, fields.width as u64);
-    put_number(bytes, 2, 2, fields.height as u64);
+    put_number(bytes, 0, 2, fields.head.width as u64);
+    put_number(bytes, 2, 2, fields.head.height as u64);
     bytes[4] = fields.direction;
     bytes[5] = fields.border;
     bytes[6] = fields.value;
-    bytes[7] = fields.filter;
+    bytes[7] = fields.head.filter;
 }
 
 // Blur length, iterations and q.

@@ -4,6 +4,7 @@ mod fields;
 mod limits;
 
 use fields::Fields;
+use fields::Head;
 use fields::fields_in;
 use fields::put_fields;
 use floats::Quantized;
@@ -14,13 +15,43 @@ ghost use mathlib.Core.Path.{_≡_};
 ghost use mathlib.Core.Bool.{true};
 ghost use lib.Ieee.Scale.{finite};
 ghost use Rattle.record.specs.Fields.{legal};
-ghost use Rattle.record.specs.Record.{borderCode, filterCode, directionFrom, borderFrom, filterFrom, recordOf, checked, isFactor, exactQ, filterQ, fieldsOf, recordFields, readRecord, Wrote, isJob};
+ghost use Rattle.record.specs.Record.{filterCode, usedFilter, filterFrom, recordOf, readFields};
+ghost use Rattle.record.specs.Record.{isFactor, exactQ, filterQ, fieldsOf, checked, recordFields};
+ghost use Rattle.record.specs.Record.{readRecord, Wrote, isJob};
 
 // A filter with its factor; the binomial has none.
 pub enum RecordFilter {
+    // Restoration by what is measured in the picture; its record has length 0.
+    WholeJob(f64),
     Restoration(f64),
     Unsharp(f64),
     Binomial,
+}
+
+impl RecordFilter {
+    // The filter's number in a record.
+    fn code(self) -> u8
+        ensures { λ r. ⌜ r ≡ filterCode self ⌝ }
+    {
+        match self {
+            RecordFilter::WholeJob(_) => 1,
+            RecordFilter::Restoration(_) => 1,
+            RecordFilter::Unsharp(_) => 2,
+            RecordFilter::Binomial => 3,
+        }
+    }
+
+    // The filter of a result: a whole job's is the restoration that it came to.
+    pub fn used(self) -> Self
+        ensures { λ r. ⌜ r ≡ usedFilter self ⌝ }
+    {
+        match self {
+            RecordFilter::WholeJob(relaxation) => RecordFilter::Restoration(relaxation),
+            RecordFilter::Restoration(relaxation) => RecordFilter::Restoration(relaxation),
+            RecordFilter::Unsharp(gain) => RecordFilter::Unsharp(gain),
+            RecordFilter::Binomial => RecordFilter::Binomial,
+        }
+    }
 }
 
 pub struct Record {
@@ -46,47 +77,41 @@ enum FieldsAnswer {
     Broken,
 }
 
-fn direction_from(index: u8) -> RasterDirection4
-    ensures { λ r. ⌜ r ≡ directionFrom index ⌝ }
-{
-    match index {
-        0 => RasterDirection4::Horizontal,
-        1 => RasterDirection4::DownRight,
-        2 => RasterDirection4::Vertical,
-        _ => RasterDirection4::DownLeft,
-    }
+// The filter that a record's fields name, or that its number is no filter's.
+enum NamedFilter {
+    Known(RecordFilter),
+    Unknown,
 }
 
-fn border_from(border: u8, value: u8) -> LineBorderMode
-    ensures { λ r. ⌜ r ≡ borderFrom border value ⌝ }
+// Filter 1 of length 0 is the whole job.
+fn filter_from(fields: Fields) -> NamedFilter
+    ensures { λ r. ⌜ r ≡ filterFrom fields ⌝ }
 {
-    match border {
-        0 => LineBorderMode::Replicate,
-        1 => LineBorderMode::Reflect,
-        _ => LineBorderMode::Constant(value),
-    }
-}
-
-fn filter_from(filter: u8, q: u32) -> RecordFilter
-    ensures { λ r. ⌜ r ≡ filterFrom filter q ⌝ }
-{
+    let filter = fields.head.filter;
+    let factor = floats::factor_of_q16(fields.q);
     match filter {
-        1 => RecordFilter::Restoration(floats::factor_of_q16(q)),
-        2 => RecordFilter::Unsharp(floats::factor_of_q16(q)),
-        _ => RecordFilter::Binomial,
+        1 => {
+            if fields.blur_length == 0 {
+                return NamedFilter::Known(RecordFilter::WholeJob(factor));
+            }
+            NamedFilter::Known(RecordFilter::Restoration(factor))
+        }
+        2 => NamedFilter::Known(RecordFilter::Unsharp(factor)),
+        3 => NamedFilter::Known(RecordFilter::Binomial),
+        _ => NamedFilter::Unknown,
     }
 }
 
-fn record_of(fields: Fields) -> Record
-    requires { ⌜ legal fields ≡ true ⌝ }
-    ensures { λ r. ⌜ r ≡ recordOf fields ⌝ }
+fn record_of(filter: RecordFilter, fields: Fields) -> Record
+    requires { ⌜ legal filter fields ≡ true ⌝ }
+    ensures { λ r. ⌜ r ≡ recordOf filter fields ⌝ }
 {
     Record {
-        width: fields.width,
-        height: fields.height,
-        direction: direction_from(fields.direction),
-        border: border_from(fields.border, fields.value),
-        filter: filter_from(fields.filter, fields.q),
+        width: fields.head.width,
+        height: fields.head.height,
+        direction: RasterDirection4::from_index(fields.direction),
+        border: LineBorderMode::from_code(fields.border, fields.value),
+        filter,
         blur_length: fields.blur_length,
         iterations: fields.iterations,
         angle: f64::from_bits(fields.angle),
@@ -94,23 +119,18 @@ fn record_of(fields: Fields) -> Record
     }
 }
 
-fn border_code(border: LineBorderMode) -> u8
-    ensures { λ r. ⌜ r ≡ borderCode border ⌝ }
+// The record of fields that break no limit of the filter that they name.
+fn read_fields(fields: Fields) -> ReadAnswer
+    ensures { λ r. ⌜ r ≡ readFields fields ⌝ }
 {
-    match border {
-        LineBorderMode::Replicate => 0,
-        LineBorderMode::Reflect => 1,
-        LineBorderMode::Constant(_) => 2,
-    }
-}
-
-fn filter_code(filter: RecordFilter) -> u8
-    ensures { λ r. ⌜ r ≡ filterCode filter ⌝ }
-{
-    match filter {
-        RecordFilter::Restoration(_) => 1,
-        RecordFilter::Unsharp(_) => 2,
-        RecordFilter::Binomial => 3,
+    match filter_from(fields) {
+        NamedFilter::Known(filter) => {
+            if is_legal(filter, fields) {
+                return ReadAnswer::Record(record_of(filter, fields));
+            }
+            ReadAnswer::Refused(13)
+        }
+        NamedFilter::Unknown => ReadAnswer::Refused(13),
     }
 }
 
@@ -142,6 +162,7 @@ fn filter_q(filter: RecordFilter) -> Quantized
     ensures { λ r. ⌜ r ≡ filterQ filter ⌝ }
 {
     match filter {
+        RecordFilter::WholeJob(factor) => exact_q(floats::quantize_relaxation(factor), factor),
         RecordFilter::Restoration(factor) => exact_q(floats::quantize_relaxation(factor), factor),
         RecordFilter::Unsharp(factor) => exact_q(floats::quantize_gain(factor), factor),
         RecordFilter::Binomial => Quantized::Q16(0),
@@ -155,13 +176,16 @@ fn fields_of(record: Record, q: u32) -> Fields
     let direction = record.direction;
     let border = record.border;
     let filter = record.filter;
-    Fields {
+    let head = Head {
         width: record.width,
         height: record.height,
+        filter: filter.code(),
+    };
+    Fields {
+        head,
         direction: direction.index(),
-        border: border_code(border),
-        value: raster::border::border_value(border),
-        filter: filter_code(filter),
+        border: border.code(),
+        value: border.value(),
         blur_length: record.blur_length,
         iterations: record.iterations,
         q,
@@ -171,12 +195,13 @@ fn fields_of(record: Record, q: u32) -> Fields
 }
 
 fn checked_fields(record: Record, q: u32) -> FieldsAnswer
-    ensures { λ r. ⌜ r ≡ checked (fieldsOf «record» q) ⌝ }
+    ensures { λ r. ⌜ r ≡ checked («record» .filter) (fieldsOf «record» q) ⌝ }
 {
     if floats::is_finite(record.angle) {
         if floats::is_finite(record.estimate) {
             let fields = fields_of(record, q);
-            if is_legal(fields) {
+            let filter = record.filter;
+            if is_legal(filter, fields) {
                 return FieldsAnswer::Legal(fields);
             }
         }
@@ -199,10 +224,7 @@ pub fn read(bytes: &[u8]) -> ReadAnswer
     ensures { λ r. ⌜ r ≡ readRecord (now (bytes .entry)) ⌝ }
 {
     if bytes.len() == 32 {
-        let fields = fields_in(bytes);
-        if is_legal(fields) {
-            return ReadAnswer::Record(record_of(fields));
-        }
+        return read_fields(fields_in(bytes));
     }
     ReadAnswer::Refused(13)
 }

@@ -1,13 +1,18 @@
 // The limits of a record's fields. Tests are joined by `&` and `|`: each ends, and none needs another's answer.
+use crate::RecordFilter;
 use crate::fields::Fields;
+use crate::fields::Head;
+use raster::border::LineBorderMode;
 ghost use mathlib.Core.Path.{_≡_};
 ghost use Prim.Native.Nat.{_+_, _*_, max};
-ghost use Rattle.record.specs.Fields.{sideLegal, lengthLegal, borderLegal, finiteBits, estimateLegal, lineLegal, wholeJob, restorationLegal, unsharpLegal, binomialLegal, filterLegal, legal};
+ghost use Rattle.record.specs.Fields.{headLegal, lengthLegal, finiteBits, estimateLegal, lineLegal};
+ghost use Rattle.record.specs.Fields.{iteratedLegal, unmeasured, filterLegal, legal};
 
-fn is_side(n: u16) -> bool
-    ensures { λ r. ⌜ r ≡ sideLegal n ⌝ }
+// Sides of 1 to 1,024.
+fn is_head(head: Head) -> bool
+    ensures { λ r. ⌜ r ≡ headLegal head ⌝ }
 {
-    (1 <= n) & (n <= 1024)
+    (1 <= head.width) & (head.width <= 1024) & ((1 <= head.height) & (head.height <= 1024))
 }
 
 fn longest(width: u16, height: u16) -> u32
@@ -19,16 +24,10 @@ fn longest(width: u16, height: u16) -> u32
     2 * width as u32 + 1
 }
 
-fn is_length(width: u16, height: u16, n: u16) -> bool
-    ensures { λ r. ⌜ r ≡ lengthLegal width height n ⌝ }
+fn is_length(head: Head, n: u16) -> bool
+    ensures { λ r. ⌜ r ≡ lengthLegal (head .width) (head .height) n ⌝ }
 {
-    (n % 2 == 1) & (3 <= n) & (n as u32 <= longest(width, height))
-}
-
-fn is_border(border: u8, value: u8) -> bool
-    ensures { λ r. ⌜ r ≡ borderLegal border value ⌝ }
-{
-    (border == 2) | ((border <= 1) & (value == 0))
+    (n % 2 == 1) & (3 <= n) & (n as u32 <= longest(head.width, head.height))
 }
 
 // Bits above infinity's are a NaN's, and no double is made of those.
@@ -54,66 +53,56 @@ fn is_line(fields: Fields) -> bool
     ensures { λ r. ⌜ r ≡ lineLegal fields ⌝ }
 {
     (fields.direction <= 3)
-        & is_border(fields.border, fields.value)
+        & LineBorderMode::is_code(fields.border, fields.value)
         & is_finite_bits(fields.angle)
         & is_estimate(fields.estimate)
 }
 
-fn is_whole_job(fields: Fields) -> bool
-    ensures { λ r. ⌜ r ≡ wholeJob fields ⌝ }
+// What both restorations ask.
+fn is_iterated(fields: Fields) -> bool
+    ensures { λ r. ⌜ r ≡ iteratedLegal fields ⌝ }
 {
-    (fields.blur_length == 0)
-        & (fields.direction == 0)
-        & (fields.angle == 0)
-        & (fields.estimate == 0)
+    is_line(fields) & (1 <= fields.iterations) & (fields.iterations <= 22) & (fields.q <= 65536)
 }
 
-fn is_restoration(fields: Fields) -> bool
-    ensures { λ r. ⌜ r ≡ restorationLegal fields ⌝ }
-{
-    is_line(fields)
-        & (is_length(fields.width, fields.height, fields.blur_length) | is_whole_job(fields))
-        & (1 <= fields.iterations)
-        & (fields.iterations <= 22)
-        & (fields.q <= 65536)
-}
-
-fn is_unsharp(fields: Fields) -> bool
-    ensures { λ r. ⌜ r ≡ unsharpLegal fields ⌝ }
-{
-    is_line(fields)
-        & is_length(fields.width, fields.height, fields.blur_length)
-        & (fields.iterations == 0)
-        & (fields.q <= 524288)
-}
-
-fn is_binomial(fields: Fields) -> bool
-    ensures { λ r. ⌜ r ≡ binomialLegal fields ⌝ }
+fn is_unmeasured(fields: Fields) -> bool
+    ensures { λ r. ⌜ r ≡ unmeasured fields ⌝ }
 {
     (fields.direction == 0)
-        & (fields.border == 0)
-        & (fields.value == 0)
         & (fields.blur_length == 0)
-        & (fields.iterations == 0)
-        & (fields.q == 0)
         & (fields.angle == 0)
         & (fields.estimate == 0)
 }
 
-fn is_filter(fields: Fields) -> bool
-    ensures { λ r. ⌜ r ≡ filterLegal fields ⌝ }
+fn is_filter(filter: RecordFilter, fields: Fields) -> bool
+    ensures { λ r. ⌜ r ≡ filterLegal filter fields ⌝ }
 {
-    let filter = fields.filter;
+    let head = fields.head;
     match filter {
-        1 => is_restoration(fields),
-        2 => is_unsharp(fields),
-        3 => is_binomial(fields),
-        _ => false,
+        RecordFilter::WholeJob(_) => is_iterated(fields) & is_unmeasured(fields),
+        RecordFilter::Restoration(_) => {
+            is_iterated(fields) & is_length(head, fields.blur_length)
+        }
+        RecordFilter::Unsharp(_) => {
+            is_line(fields)
+                & is_length(head, fields.blur_length)
+                & (fields.iterations == 0)
+                & (fields.q <= 524288)
+        }
+        RecordFilter::Binomial => {
+            is_unmeasured(fields)
+                & (fields.border == 0)
+                & (fields.value == 0)
+                & (fields.iterations == 0)
+                & (fields.q == 0)
+        }
     }
 }
 
-pub(crate) fn is_legal(fields: Fields) -> bool
-    ensures { λ r. ⌜ r ≡ legal fields ⌝ }
+// Whether the fields of the filter break no limit.
+pub(crate) fn is_legal(filter: RecordFilter, fields: Fields) -> bool
+    ensures { λ r. ⌜ r ≡ legal filter fields ⌝ }
 {
-    is_side(fields.width) & is_side(fields.height) & is_filter(fields)
+    let head = fields.head;
+    is_head(head) & is_filter(filter, fields)
 }

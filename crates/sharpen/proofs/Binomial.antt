@@ -1,5 +1,5 @@
--- Laws of the definitions: the taps of a place, the five-tap sum and its bound, the two passes are the sum of 25 products, and the
--- cases of the cut.
+-- Laws of the definitions: the taps of a place, the five-tap sum and its bound, the two passes are the sum of 25
+-- products, and the cases of the cut.
 use Prim.Native.Nat.{ℕ, _+_, _-_, _*_, _/_, _≤_, _<_}
 use mathlib.Core.Path.{_≡_, sym, _∙_, ap}
 use native.Mathlib.Nat.{mul-assoc}
@@ -31,7 +31,8 @@ tap-inside n x i h k = omega arith
 -- ---- the five-tap sum
 
 pub tap-sum-is : (f : ℕ → ℕ) (n p : ℕ)
-    → tapSum f n p ≡ weighed (f (tapPlace n p 0)) (f (tapPlace n p 1)) (f (tapPlace n p 2)) (f (tapPlace n p 3)) (f (tapPlace n p 4))
+    → tapSum f n p ≡ weighed (f (tapPlace n p 0)) (f (tapPlace n p 1)) (f (tapPlace n p 2))
+    (f (tapPlace n p 3)) (f (tapPlace n p 4))
 unfolding tapSum count
 tap-sum-is f n p = omega arith
 
@@ -78,5 +79,6 @@ module _ (p s : ℕ) where
   pub sharper-within : (s + 128) / 256 ≤ 2 * p → 2 * p ≤ (s + 128) / 256 + 255 → sharper p s ≡ 2 * p - (s + 128) / 256
   unfolding sharper
   sharper-within h k =
-      let e : difference ≡ pos (2 * p - (s + 128) / 256) = omega (arith, linear, up-sub (pos (2 * p)) (pos ((s + 128) / 256))) in
+      let e : difference ≡ pos (2 * p - (s + 128) / 256) =
+      omega (arith, linear, up-sub (pos (2 * p)) (pos ((s + 128) / 256))) in
       ap clampByte e ∙ omega arith

@@ -1,5 +1,5 @@
--- Laws of the two passes, a row at a time: a row of sums from its ends and its inside, one more row of sums, what the sums then are, and
--- one more row of the destination. m is a row's width as the code counts it, end − start.
+-- Laws of the two passes, a row at a time: a row of sums from its ends and its inside, one more row of sums, what the
+-- sums then are, and one more row of the destination. m is a row's width as the code counts it, end − start.
 use Prim.Native.Nat.{ℕ, _+_, _-_, _*_, _/_, _%_, _≤_, _<_}
 use mathlib.Core.List.{List, _++_}
 use mathlib.Core.Path.{_≡_, refl, sym, _∙_, ap}
@@ -8,13 +8,13 @@ use native.Mathlib.Omega.{arith}
 use lib.ListN.{length, getD, take, drop}
 use Rattle.numbers.specs.Written.{Written, Painted, front, part}
 use Rattle.numbers.proofs.List.{getD-part, length-part}
-use Rattle.numbers.proofs.Places.{within-front, pixels-row}
+use Rattle.numbers.proofs.Places.{part-join, within-front, pixels-row}
 use Rattle.numbers.proofs.Written.{written-join, written-part, painted-at, painted-get}
 use Rattle.image.specs.Picture.{pixel}
 use Rattle.sharpen.specs.Binomial.{tapPlace, binomialSum, sharper, unsharp}
 use Rattle.sharpen.specs.Passes.{weighed, tapSum, sumAt, insideAt, sharperAt, Sums, RowSums}
 use Rattle.sharpen.proofs.Binomial.{tap-lt, tap-inside, tap-sum-is, tap-sum-same, tap-sum-most, two-passes}
-use Rattle.sharpen.proofs.Places.{part-front, part-join, row-end-within}
+use Rattle.sharpen.proofs.Places.{part-front, row-end-within}
 
 pub inside-is : (row : List ℕ) (x : ℕ) → x + 4 < length row → insideAt row x ≡ sumAt row (2 + x)
 inside-is row x h =
@@ -51,12 +51,14 @@ module _ (row out out₁ ys out₃ : List ℕ) (long : 5 ≤ length row) (same :
 
 -- ---- one more row of a picture, w wide with stride s: n and m are w, as the code counts
 module _ (f : ℕ → ℕ → ℕ) (g : ℕ → ℕ) (w s y n m : ℕ) (old mid ys : List ℕ) where
-  pub painted-row : n ≡ w → m ≡ w → w ≤ s → y * s + w ≤ length mid → ((x : ℕ) → x < w → g x ≡ f x y) → Painted 0 f w y s old mid
+  pub painted-row : n ≡ w → m ≡ w → w ≤ s → y * s + w ≤ length mid → ((x : ℕ) → x < w → g x ≡ f x y)
+      → Painted 0 f w y s old mid
       → Written 0 (front n) g (take m (drop (y * s) mid)) ys
       → Painted 0 f w (y + 1) s old (take (y * s) mid ++ (ys ++ drop m (drop (y * s) mid)))
   painted-row e d l h v P W = rw d (written-join P row (pixels-row w s y l))
     where
-      row : Written 0 (part (y * s) w) (λ j. f (j % s) (j / s)) mid (take (y * s) mid ++ (ys ++ drop w (drop (y * s) mid)))
+      row : Written 0 (part (y * s) w) (λ j. f (j % s) (j / s)) mid
+          (take (y * s) mid ++ (ys ++ drop w (drop (y * s) mid)))
       row =
           written-part (y * s) w mid h (rw (e, d) at W) (within-front (y * s) w w (le-refl w))
           (λ x b _. v x b ∙ painted-at f s x y (omega arith))
@@ -82,7 +84,8 @@ module _ (xs : List ℕ) (w s y m : ℕ) (same : m ≡ w) (fits : y * s + w ≤ 
       rw row-part-length (tap-sum-same (λ i. getD rowPart i 0) (λ i. pixel xs s i y) w x h row-part-at)
 
 -- the sums of all rows
-pub row-sums : (xs : List ℕ) (w h s : ℕ) (old new : List ℕ) → w * h ≤ length old → Painted 0 (rowSum xs s w) w h w old new → RowSums (pixel xs s) w h new
+pub row-sums : (xs : List ℕ) (w h s : ℕ) (old new : List ℕ) → w * h ≤ length old
+    → Painted 0 (rowSum xs s w) w h w old new → RowSums (pixel xs s) w h new
 row-sums xs w h s old new b P x y p q =
     painted-get (rowSum xs s w) w h w P x y p q (le-refl w) (omega (arith, row-end-within w h y q))
 
@@ -104,7 +107,9 @@ module _ (px : ℕ → ℕ → ℕ) (w h : ℕ) (sums : List ℕ) (R : RowSums p
 
   -- five rows of sums, weighed
   pub down-is : (x y : ℕ) → x < w → y < h
-      → weighed (getD (sumsRow (tapPlace h y 0)) x 0) (getD (sumsRow (tapPlace h y 1)) x 0) (getD (sumsRow (tapPlace h y 2)) x 0) (getD (sumsRow (tapPlace h y 3)) x 0) (getD (sumsRow (tapPlace h y 4)) x 0) ≡ binomialSum px w h x y
+      → weighed (getD (sumsRow (tapPlace h y 0)) x 0) (getD (sumsRow (tapPlace h y 1)) x 0)
+      (getD (sumsRow (tapPlace h y 2)) x 0) (getD (sumsRow (tapPlace h y 3)) x 0)
+      (getD (sumsRow (tapPlace h y 4)) x 0) ≡ binomialSum px w h x y
   down-is x y b d =
       rw (at 0, at 1, at 2, at 3, at 4) (sym (tap-sum-is (λ r. tapSum (λ c. px c r) w x) h y) ∙ two-passes px w h x y)
     where
@@ -113,6 +118,8 @@ module _ (px : ℕ → ℕ → ℕ) (w h : ℕ) (sums : List ℕ) (R : RowSums p
 
   -- a pixel of the destination, from a row of the source and the rows a to e
   pub sharp-is : (row a b c d e : List ℕ) (y : ℕ) → y < h → a ≡ sumsRow (tapPlace h y 0) → b ≡ sumsRow (tapPlace h y 1)
-      → c ≡ sumsRow (tapPlace h y 2) → d ≡ sumsRow (tapPlace h y 3) → e ≡ sumsRow (tapPlace h y 4) → (x : ℕ) → x < w → getD row x 0 ≡ px x y
+      → c ≡ sumsRow (tapPlace h y 2) → d ≡ sumsRow (tapPlace h y 3) → e ≡ sumsRow (tapPlace h y 4) → (x : ℕ)
+      → x < w → getD row x 0 ≡ px x y
       → sharperAt row a b c d e x ≡ unsharp px w h x y
-  sharp-is row a b c d e y l ea eb ec ed ee x k ep = rw (ea, eb, ec, ed, ee, ep) (ap (sharper (px x y)) (down-is x y k l))
+  sharp-is row a b c d e y l ea eb ec ed ee x k ep =
+      rw (ea, eb, ec, ed, ee, ep) (ap (sharper (px x y)) (down-is x y k l))

@@ -1,43 +1,56 @@
 -- The contract of the binomial unsharp.
-use Prim.Native.Nat.{ℕ, zero, suc, _*_}
+use Prim.Native.Nat.{ℕ, _*_}
 use mathlib.Core.Bool.{cond}
 use mathlib.Core.List.{List}
-use mathlib.Core.Path.{_≡_}
 use lib.Dec.{ltb}
 use lib.ListN.{length}
 use Rattle.numbers.specs.Written.{Painted}
+use Rattle.image.specs.Call.{Gray8, Decision, accepts, refuses, decided, numberOf, Outcome}
 use Rattle.image.specs.Refusal.{firstRefusal, pairRefusal}
 use Rattle.image.specs.Picture.{pixel}
 use Rattle.sharpen.specs.Binomial.{unsharp}
 use Rattle.sharpen.specs.declared.SharpenAnswer.{SharpenAnswer}
 use Rattle.sharpen.specs.declared.SharpenAnswer.the-variants.{Done, Refused}
 
--- Document 01, "Refusals, first match wins": 1 to 6, then 10 where scratch is shorter than width × height u16. 0 is no refusal.
+-- how many u16 the call asks as scratch
+abbrev pub scratchNeeded : ℕ → ℕ → ℕ
+scratchNeeded width height = width * height
+
+-- Document 01, "Refusals, first match wins": 1 to 6, then 10 where scratch is too short. 0 is no refusal.
 unfoldable pub binomialRefusal : ℕ → ℕ → ℕ → ℕ → ℕ → ℕ → ℕ → ℕ → ℕ → ℕ
 binomialRefusal len width height stride dstLen dstWidth dstHeight dstStride scratchLen =
     firstRefusal (pairRefusal len width height stride dstLen dstWidth dstHeight dstStride)
-    (cond (ltb scratchLen (width * height)) 10 0)
+    (cond (ltb scratchLen (scratchNeeded width height)) 10 0)
 
--- the document's number of an answer: 0 for done
+-- the call finds nothing
+abbrev pub sharpenAnswer : Decision (Unit {0}) → SharpenAnswer
+sharpenAnswer (accepts found) = Done
+sharpenAnswer (refuses number) = Refused number
+
+-- an answer's decision
+abbrev pub decisionOf : SharpenAnswer → Decision (Unit {0})
+decisionOf Done = accepts tt
+decisionOf (Refused number) = refuses number
+
 abbrev pub answerNumber : SharpenAnswer → ℕ
-answerNumber Done = 0
-answerNumber (Refused number) = number
+answerNumber answer = numberOf (decisionOf answer)
 
--- the answer of a number
-abbrev pub answerOf : ℕ → SharpenAnswer
-answerOf zero = Done
-answerOf (suc number) = Refused (suc number)
+abbrev pub sharpenDecision : Gray8 → Gray8 → ℕ → Decision (Unit {0})
+sharpenDecision src dst scratchLen =
+    decided
+    (binomialRefusal (length (src .bytes)) (src .width) (src .height) (src .stride) (length (dst .bytes))
+    (dst .width) (dst .height)
+    (dst .stride) scratchLen)
+    tt
 
--- Refused: destination and scratch are as they were. Accepted: every pixel of the destination is f of its column and row, every
--- other byte as it was; scratch alone is free.
-pub record Answered (refusal : ℕ) (f : ℕ → ℕ → ℕ) (width height stride : ℕ) (dst₀ dst scratch₀ scratch : List ℕ) (answer : SharpenAnswer) : Type 0 where
-  pub answered : answer ≡ answerOf refusal
-  pub unchanged : (refusal ≡ 0 → ⊥) → (dst ≡ dst₀) × (scratch ≡ scratch₀)
-  pub painted : refusal ≡ 0 → Painted 0 f width height stride dst₀ dst
+-- each pixel of the destination is the mask's there
+abbrev pub sharpenWrites : Gray8 → ℕ → Unit {0} → List ℕ → List ℕ → Type 0
+sharpenWrites src dstStride found old new =
+    Painted 0 (unsharp (pixel (src .bytes) (src .stride)) (src .width) (src .height)) (src .width)
+    (src .height) dstStride old new
 
--- a call on the source's bytes src, with the lists dst₀ and scratch₀, that leaves dst and scratch
-abbrev pub Sharpened : List ℕ → ℕ → ℕ → ℕ → List ℕ → ℕ → ℕ → ℕ → List ℕ → List ℕ → List ℕ → SharpenAnswer → Type 0
-Sharpened src width height stride dst₀ dstWidth dstHeight dstStride scratch₀ dst scratch answer =
-    Answered
-    (binomialRefusal (length src) width height stride (length dst₀) dstWidth dstHeight dstStride (length scratch₀))
-    (unsharp (pixel src stride) width height) width height dstStride dst₀ dst scratch₀ scratch answer
+-- a call on a source, with a destination and what it is after, and the scratch before and after
+abbrev pub Sharpened : Gray8 → Gray8 → List ℕ → List ℕ → List ℕ → SharpenAnswer → Type 0
+Sharpened src dst new scratch scratch′ answer =
+    Outcome (sharpenDecision src dst (length scratch)) sharpenAnswer (sharpenWrites src (dst .stride))
+    (dst .bytes) new scratch scratch′ answer

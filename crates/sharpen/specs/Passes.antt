@@ -1,4 +1,5 @@
--- The five-tap sums of the two passes, for the contracts of `kernel`. That they make `binomialSum` is a law, `two-passes`.
+-- The five-tap sums of the two passes, for the contracts of `kernel`. That they make `binomialSum` is a law,
+-- `two-passes`.
 use Prim.Native.Nat.{ℕ, _+_, _*_, _≤_, _<_}
 use mathlib.Core.List.{List}
 use mathlib.Core.Path.{_≡_}
@@ -20,7 +21,8 @@ sumAt row x = tapSum (λ c. getD row c 0) (length row) x
 
 -- five columns of a row from x on, weighed
 abbrev pub insideAt : List ℕ → ℕ → ℕ
-insideAt row x = weighed (getD row x 0) (getD row (x + 1) 0) (getD row (x + 2) 0) (getD row (x + 3) 0) (getD row (x + 4) 0)
+insideAt row x =
+    weighed (getD row x 0) (getD row (x + 1) 0) (getD row (x + 2) 0) (getD row (x + 3) 0) (getD row (x + 4) 0)
 
 -- the byte at column x of a row, with the five rows of sums that it weighs
 abbrev pub sharperAt : List ℕ → List ℕ → List ℕ → List ℕ → List ℕ → List ℕ → ℕ → ℕ

@@ -1,5 +1,5 @@
-// The two passes: sums of five across each row into the scratch, then sums of five down the scratch. A row is one contiguous
-// loop over parts of slices, without a test of borders in it.
+// The two passes: sums of five across each row into the scratch, then sums of five down the scratch. A row is one
+// contiguous loop over parts of slices, without a test of borders in it.
 ghost use mathlib.Core.Path.{_≡_};
 ghost use Prim.Native.Nat.{_+_, _-_, _*_, _≤_, _<_};
 ghost use lib.ListN.{length, take, drop};
@@ -53,8 +53,10 @@ pub fn column_sum(row: &[u8], x: usize) -> u16
 
 // The sums at the columns from a start to an end.
 pub fn blur_ends(row: &[u8], out: &mut [u16], start: usize, end: usize)
-    requires { ⌜ (length (now out) ≡ length (now row)) × (length (now row) ≤ 1024) × (start ≤ end) × (end ≤ length (now row)) ⌝ }
-    ensures { λ r. ⌜ Written 0 (part start (end - start)) (sumAt (now (row .entry))) (now (out .entry)) (now (out .exit)) ⌝ }
+    requires { ⌜ (length (now out) ≡ length (now row)) × (length (now row) ≤ 1024) × (start ≤ end)
+        × (end ≤ length (now row)) ⌝ }
+    ensures { λ r. ⌜ Written 0 (part start (end - start)) (sumAt (now (row .entry)))
+        (now (out .entry)) (now (out .exit)) ⌝ }
 {
     let mut x = start;
     while x < end {
@@ -63,10 +65,12 @@ pub fn blur_ends(row: &[u8], out: &mut [u16], start: usize, end: usize)
     }
 }
 
-// The sums at the columns that have two neighbours on each side: out starts at the third column and ends two before the last.
+// The sums at the columns that have two neighbours on each side: out starts at the third column and ends two before the
+// last.
 pub fn blur_inside(row: &[u8], out: &mut [u16])
     requires { ⌜ length (now row) ≡ length (now out) + 4 ⌝ }
-    ensures { λ r. ⌜ Written 0 (front (length (now (out .entry)))) (insideAt (now (row .entry))) (now (out .entry)) (now (out .exit)) ⌝ }
+    ensures { λ r. ⌜ Written 0 (front (length (now (out .entry)))) (insideAt (now (row .entry)))
+        (now (out .entry)) (now (out .exit)) ⌝ }
 {
     let n = out.len();
     let mut x = 0;
@@ -78,7 +82,8 @@ pub fn blur_inside(row: &[u8], out: &mut [u16])
 
 pub fn blur_row(row: &[u8], out: &mut [u16])
     requires { ⌜ (length (now out) ≡ length (now row)) × (length (now row) ≤ 1024) ⌝ }
-    ensures { λ r. ⌜ Written 0 (front (length (now (row .entry)))) (sumAt (now (row .entry))) (now (out .entry)) (now (out .exit)) ⌝ }
+    ensures { λ r. ⌜ Written 0 (front (length (now (row .entry)))) (sumAt (now (row .entry)))
+        (now (out .entry)) (now (out .exit)) ⌝ }
 {
     let n = row.len();
     if n < 5 {
@@ -134,7 +139,8 @@ pub fn sharpen_row(
     requires { ⌜ length (now row) ≡ length (now dst) ⌝ }
     requires { ⌜ FiveSums (length (now dst)) (now a) (now b) (now c) (now d) (now e) ⌝ }
     ensures { λ r. ⌜ Written 0 (front (length (now (dst .entry))))
-        (sharperAt (now (row .entry)) (now (a .entry)) (now (b .entry)) (now (c .entry)) (now (d .entry)) (now (e .entry)))
+        (sharperAt (now (row .entry)) (now (a .entry)) (now (b .entry)) (now (c .entry))
+        (now (d .entry)) (now (e .entry)))
         (now (dst .entry)) (now (dst .exit)) ⌝ }
 {
     let n = dst.len();
@@ -168,7 +174,8 @@ pub fn sharpen_rows(
     requires { ⌜ Laid (length (now dst)) width height «dst_stride» ⌝ }
     requires { ⌜ width * height ≤ length (now scratch) ⌝ }
     requires { ⌜ RowSums (pixel (now «data») stride) width height (now scratch) ⌝ }
-    ensures { λ r. ⌜ Painted 0 (unsharp (pixel (now («data» .entry)) stride) width height) width height «dst_stride» (now (dst .entry)) (now (dst .exit)) ⌝ }
+    ensures { λ r. ⌜ Painted 0 (unsharp (pixel (now («data» .entry)) stride) width height) width height «dst_stride»
+        (now (dst .entry)) (now (dst .exit)) ⌝ }
 {
     let mut y = 0;
     while y < height {

@@ -1,6 +1,7 @@
 // The binomial unsharp: 2 × pixel − blur, with weights 1 4 6 4 1 both ways.
-ghost use Rattle.sharpen.specs.Call.{Sharpened, answerNumber};
 ghost use mathlib.Core.Path.{_≡_};
+ghost use Rattle.image.specs.Call.{gray8};
+ghost use Rattle.sharpen.specs.Call.{Sharpened, answerNumber};
 
 mod kernel;
 
@@ -33,8 +34,9 @@ pub fn fixed_binomial_unsharp_into(
     dst_stride: usize,
     scratch: &mut [u16],
 ) -> SharpenAnswer
-    ensures { λ r. ⌜ Sharpened (now («data» .entry)) width height stride (now (dst .entry)) «dst_width» «dst_height» «dst_stride»
-        (now (scratch .entry)) (now (dst .exit)) (now (scratch .exit)) r ⌝ }
+    ensures { λ r. ⌜ Sharpened (gray8 (now («data» .entry)) width height stride)
+        (gray8 (now (dst .entry)) «dst_width» «dst_height» «dst_stride»)
+        (now (dst .exit)) (now (scratch .entry)) (now (scratch .exit)) r ⌝ }
 {
     let refusal = image::pair_refusal(
         data.len(),

@@ -1,5 +1,5 @@
-// The program: `job.rec` and `picture.raw` of the folder that it is run in, and what they give to standard output. All but the reading and
-// writing is `smear_run::run`.
+// The program: `job.rec` and `picture.raw` of the folder that it is run in, and what they give to standard output. All
+// but the reading and writing is `smear_run::run`.
 ghost use Rattle.io.specs.Counts.{Counts};
 use libc::STDOUT_FILENO;
 use smear_run::RunAnswer;
@@ -17,8 +17,8 @@ fn read_file(path: &[u8], bytes: &mut [u8]) -> usize
     n
 }
 
-// A record has 32 bytes, so that 33 tell a longer file; a picture that is not too large has at most 4,096. On the stack: 8,257 bytes here, and
-// what `smear_run::run` owns.
+// A record has 32 bytes, so that 33 tell a longer file; a picture that is not too large has at most 4,096. On the
+// stack: 8,257 bytes here, and what `smear_run::run` owns.
 fn main() {
     let mut job = [0u8; 33];
     let mut picture = [0u8; 4096];

@@ -1,7 +1,10 @@
 /* The smear stage: measuring a line smear in a grey picture and taking it out.
  *
- * A picture is a slice of bytes, `src` and `src_len`, with its width, height and stride: pixel (c, r) is byte r * stride + c.
- * A function returns 0, or the number of the refusal, in which case it has changed nothing. What is passed to one call does not overlap.
+ * A picture is a slice of bytes, `src` and `src_len`, with its width, height and stride: pixel (c, r) is byte
+ * r * stride + c. What is passed to one call does not overlap.
+ * A function returns 0, or the number of the refusal. A refusal changes neither destination nor scratch, except that 11
+ * and 12 leave scratch free; no refusal changes an out-parameter. Scratch is `scratch` and `swings`; an accepted call
+ * leaves it free.
  * Directions: 0 Horizontal, 1 DownRight, 2 Vertical, 3 DownLeft.
  */
 #ifndef SMEAR_H
@@ -17,8 +20,8 @@ extern "C" {
 /* The raster direction nearest to an angle in radians. An angle that is no number is Horizontal. */
 uint8_t smear_direction_from_angle(double angle);
 
-/* The direction of the line smear in a picture, from its Sobel gradients gx and gy: *direction, with the sums *a of gx * gx, *c of
- * gx * gy and *e of gy * gy over the interior pixels. Refusals 1 to 4. */
+/* The direction of the line smear in a picture, from its Sobel gradients gx and gy: *direction, with the sums *a of
+ * gx * gx, *c of gx * gy and *e of gy * gy over the interior pixels. Refusals 1 to 4. */
 uint8_t smear_estimate_line_direction(const uint8_t *src, size_t src_len, size_t width, size_t height, size_t stride,
                                       uint8_t *direction, int64_t *a, int64_t *c, int64_t *e);
 
@@ -28,26 +31,28 @@ typedef struct {
     int32_t swing;
 } smear_swing;
 
-/* The length of the line smear along the raster direction nearest to `angle`: *length, or 0.0 where there is nothing to tell it by. There
- * must be `minimum_transitions` swings of at least `minimum_amplitude`; usual are 8 and 24, and a 0 or a side below 3 gives 0.0. `swings`
- * has at least width * height elements; what it holds afterwards is free. Refusals: 1 to 4, and 10 of too few swings. */
-uint8_t smear_estimate_line_length(const uint8_t *src, size_t src_len, size_t width, size_t height, size_t stride, double angle,
-                                   size_t minimum_transitions, uint8_t minimum_amplitude,
-                                   smear_swing *swings, size_t swings_len, double *length);
+/* The length of the line smear along the raster direction nearest to `angle`: *length, or 0.0 where there is nothing to
+ * tell it by. There must be `minimum_transitions` swings of at least `minimum_amplitude`; usual are 8 and 24, and a 0
+ * or a side below 3 gives 0.0. `swings` has at least width * height elements.
+ * Refusals: 1 to 4, and 10 of too few swings. */
+uint8_t smear_estimate_line_length(
+    const uint8_t *src, size_t src_len, size_t width, size_t height, size_t stride,
+    double angle, size_t minimum_transitions, uint8_t minimum_amplitude,
+    smear_swing *swings, size_t swings_len, double *length);
 
-/* The binomial unsharp of `src`, into `dst`. `scratch` has at least width * height elements; what it holds afterwards is free.
+/* The binomial unsharp of `src`, into `dst`. `scratch` has at least width * height elements.
  * Refusals: 1 to 4 of the source, 5 of the destination's layout, 6 of two sizes that differ, 10 of a short scratch. */
 uint8_t smear_fixed_binomial_unsharp(
     const uint8_t *src, size_t src_len, size_t width, size_t height, size_t stride,
     uint8_t *dst, size_t dst_len, size_t dst_width, size_t dst_height, size_t dst_stride,
     uint16_t *scratch, size_t scratch_len);
 
-/* Restoration of `src` along the direction nearest to `angle`, cut to 0..255, into `dst`. `blur_length` is odd, from 3 to
- * 2 * max(width, height) + 1; `iterations` 1 to 22; `relaxation` 0 to 1. `border` is what stands beyond a line's ends: 0 their
- * nearer pixel, 1 the line reflected, any other `border_value`. `scratch` has at least 3 * width * height elements; what it holds
- * afterwards is free. *direction is the direction taken.
- * Refusals: 1 to 4 of the source, 5 of the destination's layout, 6 of two sizes that differ, 7 of the length and the angle,
- * 8 and 9 of the iterations and the relaxation, 10 of a short scratch. */
+/* Restoration of `src` along the direction nearest to `angle`, cut to 0..255, into `dst`. `blur_length` is odd, from 3
+ * to 2 * max(width, height) + 1; `iterations` 1 to 22; `relaxation` 0 to 1. `border` is what stands beyond a line's
+ * ends: 0 their nearer pixel, 1 the line reflected, any other `border_value`. `scratch` has at least 3 * width * height
+ * elements. *direction is the direction taken.
+ * Refusals: 1 to 4 of the source, 5 of the destination's layout, 6 of two sizes that differ, 7 of the length and the
+ * angle, 8 and 9 of the iterations and the relaxation, 10 of a short scratch. */
 uint8_t smear_van_cittert_line(
     const uint8_t *src, size_t src_len, size_t width, size_t height, size_t stride,
     uint8_t *dst, size_t dst_len, size_t dst_width, size_t dst_height, size_t dst_stride,
@@ -70,13 +75,13 @@ uint8_t smear_directional_unsharp_line(
     double angle, size_t blur_length, double gain, uint8_t border, uint8_t border_value,
     int32_t *scratch, size_t scratch_len, uint8_t *direction);
 
-/* The whole job: the direction from the picture, the length along it, raised to an odd blur length, and restoration of `src` by them, cut
- * to 0..255, into `dst`. Thresholds as for the length, the other settings as for the restoration. `scratch` has at least
- * 3 * width * height elements and `swings` width * height; what they hold afterwards is free. *direction, *blur_length and *estimate are
- * what was measured.
- * Refusals: 1 to 4 of the source, 5 of the destination's layout, 6 of two sizes that differ, 8 and 9 of the iterations and the
- * relaxation, 10 of a short scratch or too few swings, 11 of no length, 12 of a blur length above 2 * max(width, height) + 1. 11 and 12
- * leave anything in `scratch` and `swings`. */
+/* The whole job: the direction from the picture, the length along it, raised to an odd blur length, and restoration of
+ * `src` by them, cut to 0..255, into `dst`. Thresholds as for the length, the other settings as for the restoration.
+ * `scratch` has at least 3 * width * height elements and `swings` width * height. *direction, *blur_length and
+ * *estimate are what was measured.
+ * Refusals: 1 to 4 of the source, 5 of the destination's layout, 6 of two sizes that differ, 8 and 9 of the iterations
+ * and the relaxation, 10 of a short scratch or too few swings, 11 of no length, 12 of a blur length above
+ * 2 * max(width, height) + 1. */
 uint8_t smear_restore(
     const uint8_t *src, size_t src_len, size_t width, size_t height, size_t stride,
     uint8_t *dst, size_t dst_len, size_t dst_width, size_t dst_height, size_t dst_stride,
@@ -85,13 +90,15 @@ uint8_t smear_restore(
     int32_t *scratch, size_t scratch_len, smear_swing *swings, size_t swings_len,
     uint8_t *direction, size_t *blur_length, double *estimate);
 
-/* The program's work. `job` is the 32-byte record of a job and `picture` its picture, tight; what lies behind its pixels is ignored. Into the
- * front of `out` go the pixels and the 32-byte record of the result, or one of the texts "refused N\n" (13 where `job` is no job's record)
- * and "too large\n" (more than 4,096 pixels). *written is how many bytes that is, at most 4,128; what stands behind them in `out` is not
- * changed. 10 where `out` is shorter, and nothing is changed.
+/* The program's work. `job` is the 32-byte record of a job and `picture` its picture, tight; what lies behind its
+ * pixels is ignored. Into the front of `out` go the pixels and the 32-byte record of the result, or one of the texts
+ * "refused N\n" (13 where `job` is no job's record) and "too large\n" (more than 4,096 pixels). *written is how many
+ * bytes that is, at most 4,128; what stands behind them in `out` is not changed. 10 where `out` is shorter, and nothing
+ * is changed.
  * On the stack: local arrays of at most 151,584 bytes. */
-uint8_t smear_run(const uint8_t *job, size_t job_len, const uint8_t *picture, size_t picture_len, uint8_t *out, size_t out_len,
-                  size_t *written);
+uint8_t smear_run(
+    const uint8_t *job, size_t job_len, const uint8_t *picture, size_t picture_len,
+    uint8_t *out, size_t out_len, size_t *written);
 
 #ifdef __cplusplus
 }

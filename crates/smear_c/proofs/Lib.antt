@@ -1,3 +1,3 @@
 -- The laws of `smear_c`, by subject.
 pub mod Outs
-pub mod JobOuts
+pub mod RestorationDecision

@@ -1,16 +1,102 @@
--- What a call returns and leaves in its out-parameters, by the answer.
-use mathlib.Core.Path.{_≡_}
+-- What each call returns and leaves in its out-parameters, by the answer.
+use mathlib.Core.Path.{_≡_, refl, sym, ap, _∙_}
+use mathlib.Core.List.{List}
 use Prim.Native.Nat.{ℕ}
+use native.Mathlib.Omega.{arith}
 use lib.IntN.{ℤ}
+use lib.ListN.{length}
+use Rattle.image.specs.Call.{Decision, accepts, refuses, numberOf, outsOnly, withOuts, Outcome, Returns}
+use Rattle.image.proofs.Call.{accepts-not-refuses, outcome-accepted, outcome-refused}
 use Rattle.tensor.specs.declared.direction.DirectionAnswer.{DirectionAnswer}
 use Rattle.tensor.specs.declared.direction.DirectionAnswer.the-variants.{Direction, Refused}
 use Rattle.tensor.specs.declared.direction.DirectionEstimate.{DirectionEstimate}
+use Rattle.tensor.specs.Tensor.{directionAnswer}
 use Rattle.raster.specs.Direction.{directionIndex}
-use Rattle.smear_c.specs.Direction.{Outs, Returned}
+use Rattle.blur.specs.Length.{lengthAnswer}
+use Rattle.blur.specs.declared.length.LineLength.{LineLength}
+use Rattle.smear_run.specs.Output.{runAnswer, runWrites}
+use Rattle.smear_run.specs.declared.RunAnswer.{RunAnswer}
+use Rattle.smear_run.specs.declared.RunAnswer.the-variants as run
+use Rattle.smear_c.specs.Direction.{DirectionOuts, directionOuts}
+use Rattle.smear_c.specs.Length.{lengthDecided}
 
-pub returned-estimate :
-    {answer : DirectionAnswer} {d : DirectionEstimate} (before : Outs) {n : ℕ} {A C E : ℤ} → answer ≡ Direction d → n ≡ directionIndex (d .direction) → A ≡ d .a → C ≡ d .c → E ≡ d .e → Returned answer before (record { direction = n; a = A; c = C; e = E }) 0
-returned-estimate before q en ea ec ee = record { result = simp q; outs = simp (q, en, ea, ec, ee) }
+-- ---- any call
 
-pub returned-refusal : {answer : DirectionAnswer} {number : ℕ} (before : Outs) → answer ≡ Refused number → Returned answer before before number
-returned-refusal before q = record { result = simp q; outs = simp q }
+module _ {R O : Type 0} (value : R → O) (before : O) {decision : Decision R} where
+  pub returns-found : (found : R) {after : O} → decision ≡ accepts found → after ≡ value found
+      → Returns decision value before after 0
+  returns-found found {after} e a = outcome-accepted numberOf (outsOnly value) before tt found after tt e refl a
+
+  pub returns-number : (number : ℕ) → decision ≡ refuses number → Returns decision value before before number
+  returns-number number e = outcome-refused numberOf (outsOnly value) before tt number e refl
+
+-- ---- the direction
+
+directionDecided : DirectionAnswer → Decision DirectionEstimate
+directionDecided (Direction d) = accepts d
+directionDecided (Refused number) = refuses number
+
+direction-decided : (decision : Decision DirectionEstimate) {answer : DirectionAnswer}
+    → directionAnswer decision ≡ answer
+    → decision ≡ directionDecided answer
+unfolding directionDecided
+direction-decided (accepts d) e = ap directionDecided e
+direction-decided (refuses number) e = ap directionDecided e
+
+module _ (decision : Decision DirectionEstimate) (before : DirectionOuts) where
+  pub returns-estimate : {d : DirectionEstimate} {n : ℕ} {A C E : ℤ} → directionAnswer decision ≡ Direction d
+      → n ≡ directionIndex (d .direction) → A ≡ d .a → C ≡ d .c → E ≡ d .e
+      → Returns decision directionOuts before (record { direction = n; a = A; c = C; e = E }) 0
+  unfolding directionDecided
+  returns-estimate {d} q en ea ec ee =
+      returns-found directionOuts before d (direction-decided decision q) (rw (en, ea, ec, ee) refl)
+
+  pub returns-refusal : {number : ℕ} → directionAnswer decision ≡ Refused number
+      → Returns decision directionOuts before before number
+  unfolding directionDecided
+  returns-refusal {number} q = returns-number directionOuts before number (direction-decided decision q)
+
+-- ---- the length
+
+pub length-decided : (decision : Decision LineLength) → lengthDecided (lengthAnswer decision) ≡ decision
+length-decided (accepts l) = refl
+length-decided (refuses number) = refl
+
+-- ---- the program's work
+
+module _ {old new : List ℕ} (before : ℕ) (decision : Decision (List ℕ)) {answer : RunAnswer}
+    (o : Outcome decision runAnswer runWrites old new (tt {0}) (tt {0}) answer) where
+  abbrev InC : ℕ → ℕ → Type 0
+  InC after r = Outcome decision numberOf (withOuts runWrites length) (old, before) (new, after) (tt {0}) (tt {0}) r
+
+  pub run-written : {n : ℕ} → answer ≡ run.Written n → InC n 0
+  run-written {n} e = go decision refl
+    where
+      go : (d : Decision (List ℕ)) → decision ≡ d → InC n 0
+      go (accepts xs) is =
+          let said = sym e ∙ o .answered ∙ ap runAnswer is in
+          let same : n ≡ length xs = cc in
+          outcome-accepted numberOf (withOuts runWrites length) (old, before) tt xs
+          (new, n) tt is refl (o .written xs is, same)
+      go (refuses number) is =
+          let said = sym e ∙ o .answered ∙ ap runAnswer is in
+          let z : _≡_ {A = ℕ} 0 1 = cc in
+          absurd (omega arith)
+
+  pub run-refused : {number : ℕ} → answer ≡ run.Refused number → InC before number
+  run-refused {number} e = go decision refl
+    where
+      go : (d : Decision (List ℕ)) → decision ≡ d → InC before number
+      go (accepts xs) is =
+          let said = sym e ∙ o .answered ∙ ap runAnswer is in
+          let z : _≡_ {A = ℕ} 0 1 = cc in
+          absurd (omega arith)
+      go (refuses k) is =
+          let said = sym e ∙ o .answered ∙ ap runAnswer is in
+          let same : number ≡ k = cc in
+          record {
+            answered = rw is same;
+            written = λ found z. absurd (accepts-not-refuses (sym z ∙ is));
+            dst-kept = λ m z. rw (o .dst-kept m z) refl;
+            scratch-kept = λ _ _ _. refl;
+          }

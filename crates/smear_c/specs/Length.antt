@@ -1,34 +1,28 @@
 -- `smear_estimate_line_length`: document 01's answer ("Length") as C has it, a result and an out-parameter.
-use mathlib.Core.Path.{_≡_}
 use mathlib.Core.List.{List}
 use Prim.Native.Nat.{ℕ}
 use lib.Ieee.{Float, binary64, ofBits}
 use lib.ListN.{length}
+use Rattle.image.specs.Call.{Gray8, Decision, accepts, refuses, numberOf, outsOnly, Outcome}
 use Rattle.raster.specs.declared.direction.RasterDirection4.{RasterDirection4}
 use Rattle.swings.specs.declared.Swing.{Swing}
 use Rattle.blur.specs.declared.length.LineLength.{LineLength}
 use Rattle.blur.specs.declared.length.LineLength.the-variants.{Found, Nothing}
 use Rattle.blur.specs.declared.length.LengthAnswer.{LengthAnswer}
 use Rattle.blur.specs.declared.length.LengthAnswer.the-variants.{Length, Refused}
-use Rattle.blur.specs.Length.{lengthAnswer}
+use Rattle.blur.specs.Length.{lengthDecision}
 
--- 0, or the refusal's number
-abbrev pub lengthResult : LengthAnswer → ℕ
-lengthResult (Length l) = 0
-lengthResult (Refused number) = number
+-- what an answer says was decided
+abbrev pub lengthDecided : LengthAnswer → Decision LineLength
+lengthDecided (Length l) = accepts l
+lengthDecided (Refused number) = refuses number
 
--- the length, and 0.0 for Nothing
+-- the out-parameter: the length, and 0.0 for Nothing
 abbrev pub pixelsOf : LineLength → Float
 pixelsOf (Found pixels) = pixels
 pixelsOf Nothing = ofBits binary64 0
 
--- .. in the out-parameter; on a refusal it is as it was
-abbrev pub lengthOut : LengthAnswer → Float → Float
-lengthOut (Length l) before = pixelsOf l
-lengthOut (Refused number) before = before
-
--- What a call returns and leaves. On a refusal the records too are as they were; otherwise anything may be in them.
-pub record LengthReturned (bytes : List ℕ) (w h stride : ℕ) (d : RasterDirection4) (transitions amplitude : ℕ) (swings swings-after : List Swing) (out out-after : Float) (r : ℕ) : Type 0 where
-  pub result : r ≡ lengthResult (lengthAnswer bytes w h stride d transitions amplitude (length swings))
-  pub length-out : out-after ≡ lengthOut (lengthAnswer bytes w h stride d transitions amplitude (length swings)) out
-  pub untouched : (number : ℕ) → lengthAnswer bytes w h stride d transitions amplitude (length swings) ≡ Refused number → swings-after ≡ swings
+abbrev pub LengthMeasuredC : Gray8 → RasterDirection4 → ℕ → ℕ → Float → Float → List Swing → List Swing → ℕ → Type 0
+LengthMeasuredC src d transitions amplitude before after swings swings′ r =
+    Outcome (lengthDecision src d transitions amplitude (length swings)) numberOf (outsOnly pixelsOf) before after
+    swings swings′ r

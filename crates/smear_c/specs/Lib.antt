@@ -1,6 +1,7 @@
 -- What the contracts of `smear_c` cite.
 pub mod Direction
 pub mod Restoration
+pub mod Sharpening
 pub mod Length
 pub mod WholeJob
 pub mod Program

@@ -1,20 +1,20 @@
--- The line filters as C has them: settings one by one, a result, and an out-parameter for the direction (document 01, "Restoration and line unsharp").
-use mathlib.Core.Path.{_≡_}
-use mathlib.Core.Bool.{cond}
+-- The line filters as C has them: settings one by one, a result, and an out-parameter for the direction (document 01,
+-- "Restoration and line unsharp").
+use mathlib.Core.List.{List}
 use Prim.Native.Nat.{ℕ}
-use lib.Dec.{eqb}
+use lib.IntN.{ℤ}
 use lib.Ieee.{Float}
+use lib.ListN.{length}
+use Rattle.image.specs.Call.{Gray8, Decision, accepts, refuses, numberOf, Outcome, withOuts}
+use Rattle.raster.specs.Border.{borderFrom}
 use Rattle.raster.specs.Direction.{directionIndex}
-use Rattle.raster.specs.declared.border.LineBorderMode.{LineBorderMode}
-use Rattle.raster.specs.declared.border.LineBorderMode.the-variants.{Replicate, Reflect, Constant}
+use Rattle.raster.specs.declared.direction.RasterDirection4.{RasterDirection4}
+use Rattle.deblur.specs.Calls.{filterDecision, filterWrites, estimateDecision, estimateWrites}
+use Rattle.deblur.specs.Settings.{LineFilter}
 use Rattle.deblur.specs.declared.DirectionalUnsharpConfig.{DirectionalUnsharpConfig}
 use Rattle.deblur.specs.declared.RestorationAnswer.{RestorationAnswer}
 use Rattle.deblur.specs.declared.RestorationAnswer.the-variants.{Done, Refused}
 use Rattle.deblur.specs.declared.VanCittertConfig.{VanCittertConfig}
-
--- border 0 is Replicate, 1 Reflect, any other Constant with the value
-abbrev pub borderOf : ℕ → ℕ → LineBorderMode
-borderOf border value = cond (eqb border 0) Replicate (cond (eqb border 1) Reflect (Constant value))
 
 abbrev pub restorationConfig : Float → ℕ → ℕ → Float → ℕ → ℕ → VanCittertConfig
 restorationConfig angle length iterations relaxation border value =
@@ -23,7 +23,7 @@ restorationConfig angle length iterations relaxation border value =
       «blur_length» = length;
       iterations = iterations;
       relaxation = relaxation;
-      border = borderOf border value;
+      border = borderFrom border value;
     }
 
 abbrev pub unsharpConfig : Float → ℕ → Float → ℕ → ℕ → DirectionalUnsharpConfig
@@ -32,26 +32,23 @@ unsharpConfig angle length gain border value =
       «theta_radians» = angle;
       «blur_length» = length;
       gain = gain;
-      border = borderOf border value;
+      border = borderFrom border value;
     }
 
--- 0, or the refusal's number
-abbrev pub restorationResult : RestorationAnswer → ℕ
-restorationResult (Done metadata) = 0
-restorationResult (Refused number) = number
+-- an answer's decision
+abbrev pub decisionOf : RestorationAnswer → Decision RasterDirection4
+decisionOf (Done metadata) = accepts (metadata .«raster_direction»)
+decisionOf (Refused number) = refuses number
 
--- the direction's number; on a refusal the out-parameter is as it was
-abbrev pub restorationDirection : RestorationAnswer → ℕ → ℕ
-restorationDirection (Done metadata) before = directionIndex (metadata .«raster_direction»)
-restorationDirection (Refused number) before = before
+-- restoration and line unsharp: 0, or the refusal's number; the direction's number is written beside the pixels
+abbrev pub FilteredC : Gray8 → Gray8 → List ℕ → LineFilter → List ℤ → List ℤ → ℕ → ℕ → ℕ → Type 0
+FilteredC src dst new f scratch scratch′ before after r =
+    Outcome (filterDecision src dst f (length scratch)) numberOf
+    (withOuts (filterWrites src (dst .stride) (f .kernel)) directionIndex) (dst .bytes, before)
+    (new, after) scratch scratch′ r
 
--- what C is given of an answer
-pub record GivenC (answer : RestorationAnswer) (before after r : ℕ) : Type 0 where
-  pub result : r ≡ restorationResult answer
-  pub direction : after ≡ restorationDirection answer before
-
--- a call whose outcome by its answer is `call`
-pub record CalledC (call : RestorationAnswer → Type 0) (before after r : ℕ) : Type 0 where
-  pub answer : RestorationAnswer
-  pub called : call answer
-  pub given : GivenC answer before after r
+-- the estimate call: the same, beside the estimates
+abbrev pub EstimateWrittenC : Gray8 → List ℤ → List ℤ → LineFilter → List ℤ → List ℤ → ℕ → ℕ → ℕ → Type 0
+EstimateWrittenC src old new f scratch scratch′ before after r =
+    Outcome (estimateDecision src (length old) f (length scratch)) numberOf
+    (withOuts (estimateWrites src (f .kernel)) directionIndex) (old, before) (new, after) scratch scratch′ r

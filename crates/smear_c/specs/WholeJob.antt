@@ -1,12 +1,17 @@
--- The whole job as C has it: settings one by one, a result, and out-parameters for what the job answers (document 01, "Whole job and exact run").
-use mathlib.Core.Path.{_≡_}
+-- The whole job as C has it: settings one by one, a result, and out-parameters for what the job answers (document 01,
+-- "Whole job and exact run").
+use mathlib.Core.List.{List}
 use Prim.Native.Nat.{ℕ}
+use lib.IntN.{ℤ}
 use lib.Ieee.{Float}
+use lib.ListN.{length}
+use Rattle.image.specs.Call.{Gray8, numberOf, withOuts, Outcome}
+use Rattle.raster.specs.Border.{borderFrom}
 use Rattle.raster.specs.Direction.{directionIndex}
 use Rattle.job.specs.declared.JobConfig.{JobConfig}
-use Rattle.job.specs.declared.JobAnswer.{JobAnswer}
-use Rattle.job.specs.declared.JobAnswer.the-variants.{Done, Refused}
-use Rattle.smear_c.specs.Restoration.{borderOf}
+use Rattle.job.specs.declared.JobResult.{JobResult}
+use Rattle.job.specs.Job.{jobOf, layoutOf, plan, jobWrites}
+use Rattle.swings.specs.declared.Swing.{Swing}
 
 abbrev pub jobConfig : ℕ → ℕ → ℕ → Float → ℕ → ℕ → JobConfig
 jobConfig transitions amplitude iterations relaxation border value =
@@ -15,7 +20,7 @@ jobConfig transitions amplitude iterations relaxation border value =
       «minimum_amplitude» = amplitude;
       iterations = iterations;
       relaxation = relaxation;
-      border = borderOf border value;
+      border = borderFrom border value;
     }
 
 -- the out-parameters
@@ -24,23 +29,17 @@ pub record JobOuts : Type 0 where
   pub blur-length : ℕ
   pub estimate : Float
 
--- 0, or the refusal's number
-abbrev pub jobNumber : JobAnswer → ℕ
-jobNumber (Done result) = 0
-jobNumber (Refused number) = number
+abbrev pub outs : ℕ → ℕ → Float → JobOuts
+outs direction length estimate = record { direction = direction; blur-length = length; estimate = estimate }
 
--- the direction's number, the blur length and the estimate; on a refusal the out-parameters are as they were
-abbrev pub jobOuts : JobAnswer → JobOuts → JobOuts
-jobOuts (Done result) before = record { direction = directionIndex (result .direction); blur-length = result .«blur_length»; estimate = result .estimate }
-jobOuts (Refused number) before = before
+-- the direction's number, the blur length and the estimate
+abbrev pub jobOuts : JobResult → JobOuts
+jobOuts result = outs (directionIndex (result .direction)) (result .«blur_length») (result .estimate)
 
--- what C is given of an answer
-pub record JobGiven (answer : JobAnswer) (before after : JobOuts) (r : ℕ) : Type 0 where
-  pub number : r ≡ jobNumber answer
-  pub outs : after ≡ jobOuts answer before
-
--- a call whose outcome by its answer is `call`
-pub record JobCalled (call : JobAnswer → Type 0) (before after : JobOuts) (r : ℕ) : Type 0 where
-  pub answer : JobAnswer
-  pub called : call answer
-  pub given : JobGiven answer before after r
+abbrev pub RestoredC : Gray8 → Gray8 → List ℕ → JobConfig → List ℤ → List ℤ → List Swing
+    → List Swing → JobOuts → JobOuts → ℕ
+    → Type 0
+RestoredC src dst new config scratch scratch′ swings swings′ before after r =
+    Outcome {S = List ℤ × List Swing} (plan (jobOf src (layoutOf dst) config (length scratch) (length swings))) numberOf
+    (withOuts (jobWrites src (dst .stride) config) jobOuts) (dst .bytes, before) (new, after) (scratch, swings)
+    (scratch′, swings′) r

@@ -1,8 +1,9 @@
 // Direction from an angle and from a picture.
 ghost use mathlib.Core.Path.{_≡_};
-ghost use Rattle.tensor.specs.Tensor.{directionAnswer};
+ghost use Rattle.image.specs.Call.{gray8, Returns};
+ghost use Rattle.tensor.specs.Tensor.{directionDecision};
 ghost use Rattle.raster.specs.Direction.{directionIndex, fromAngle};
-ghost use Rattle.smear_c.specs.Direction.{Returned};
+ghost use Rattle.smear_c.specs.Direction.{directionOuts};
 use raster::direction::RasterDirection4;
 use tensor::direction::DirectionAnswer;
 use tensor::estimate_line_direction;
@@ -25,7 +26,7 @@ pub extern "C" fn smear_estimate_line_direction(
     c: &mut i64,
     e: &mut i64,
 ) -> u8
-    ensures { λ r. ⌜ Returned (directionAnswer (now (src .entry)) width height stride)
+    ensures { λ r. ⌜ Returns (directionDecision (gray8 (now (src .entry)) width height stride)) directionOuts
         (record { direction = now (direction .entry); a = now (a .entry); c = now (c .entry); e = now (e .entry) })
         (record { direction = now (direction .exit); a = now (a .exit); c = now (c .exit); e = now (e .exit) })
         r ⌝ }

@@ -1,7 +1,7 @@
 // The length of the line smear.
-ghost use mathlib.Core.Path.{_≡_};
+ghost use Rattle.image.specs.Call.{gray8, Returns};
 ghost use Rattle.raster.specs.Direction.{fromAngle};
-ghost use Rattle.smear_c.specs.Length.{lengthResult, lengthOut, LengthReturned};
+ghost use Rattle.smear_c.specs.Length.{lengthDecided, pixelsOf, LengthMeasuredC};
 use blur::length::LengthAnswer;
 use blur::length::LineLength;
 use blur::length::estimate_at;
@@ -9,7 +9,7 @@ use swings::Swing;
 
 // An answer as C has it: the result, and the length, 0.0 for Nothing.
 fn return_length(answer: LengthAnswer, length: &mut f64) -> u8
-    ensures { λ r. ⌜ (r ≡ lengthResult answer) × (now (length .exit) ≡ lengthOut answer (now (length .entry))) ⌝ }
+    ensures { λ r. ⌜ Returns (lengthDecided answer) pixelsOf (now (length .entry)) (now (length .exit)) r ⌝ }
 {
     match answer {
         LengthAnswer::Length(measured) => {
@@ -39,8 +39,9 @@ pub extern "C" fn smear_estimate_line_length(
     swings: &mut [Swing],
     length: &mut f64,
 ) -> u8
-    ensures { λ r. ⌜ LengthReturned (now (src .entry)) width height stride (fromAngle angle) «minimum_transitions» «minimum_amplitude»
-        (now (swings .entry)) (now (swings .exit)) (now (length .entry)) (now (length .exit)) r ⌝ }
+    ensures { λ r. ⌜ LengthMeasuredC (gray8 (now (src .entry)) width height stride)
+        (fromAngle angle) «minimum_transitions» «minimum_amplitude»
+        (now (length .entry)) (now (length .exit)) (now (swings .entry)) (now (swings .exit)) r ⌝ }
 {
     return_length(
         estimate_at(

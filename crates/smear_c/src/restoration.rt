@@ -1,24 +1,14 @@
 // Restoration and line unsharp for C.
 ghost use mathlib.Core.Path.{_≡_};
-ghost use Rattle.deblur.specs.Calls.{Filtered, Estimated};
+ghost use Rattle.image.specs.Call.{gray8, Returns};
 ghost use Rattle.deblur.specs.Settings.{restorationOf, unsharpOf};
-ghost use Rattle.smear_c.specs.Restoration.{borderOf, restorationConfig, unsharpConfig, GivenC, CalledC};
+ghost use Rattle.raster.specs.Direction.{directionIndex};
+ghost use Rattle.smear_c.specs.Restoration.{restorationConfig, unsharpConfig, decisionOf, FilteredC};
+ghost use Rattle.smear_c.specs.Restoration.{EstimateWrittenC};
 use deblur::DirectionalUnsharpConfig;
 use deblur::RestorationAnswer;
 use deblur::VanCittertConfig;
 use raster::border::LineBorderMode;
-
-pub(crate) fn border_of(border: u8, value: u8) -> LineBorderMode
-    ensures { λ r. ⌜ r ≡ borderOf border value ⌝ }
-{
-    if border == 0 {
-        return LineBorderMode::Replicate;
-    }
-    if border == 1 {
-        return LineBorderMode::Reflect;
-    }
-    LineBorderMode::Constant(value)
-}
 
 fn restoration_config(
     angle: f64,
@@ -35,7 +25,7 @@ fn restoration_config(
         blur_length,
         iterations,
         relaxation,
-        border: border_of(border, value),
+        border: LineBorderMode::from_code(border, value),
     }
 }
 
@@ -52,13 +42,13 @@ fn unsharp_config(
         theta_radians: angle,
         blur_length,
         gain,
-        border: border_of(border, value),
+        border: LineBorderMode::from_code(border, value),
     }
 }
 
 // 0 and the direction's number, or the refusal's number.
 fn answer_c(answer: RestorationAnswer, direction: &mut u8) -> u8
-    ensures { λ r. ⌜ GivenC answer (now (direction .entry)) (now (direction .exit)) r ⌝ }
+    ensures { λ r. ⌜ Returns (decisionOf answer) directionIndex (now (direction .entry)) (now (direction .exit)) r ⌝ }
 {
     match answer {
         RestorationAnswer::Done(metadata) => {
@@ -89,9 +79,11 @@ pub extern "C" fn smear_van_cittert_line(
     scratch: &mut [i32],
     direction: &mut u8,
 ) -> u8
-    ensures { λ r. ⌜ CalledC (Filtered (now (src .entry)) width height stride (now (dst .entry)) (now (dst .exit)) «dst_width» «dst_height» «dst_stride»
-        (restorationOf (restorationConfig angle «blur_length» iterations relaxation border «border_value»)) (now (scratch .entry)) (now (scratch .exit)))
-        (now (direction .entry)) (now (direction .exit)) r ⌝ }
+    ensures { λ r. ⌜ FilteredC (gray8 (now (src .entry)) width height stride)
+        (gray8 (now (dst .entry)) «dst_width» «dst_height» «dst_stride»)
+        (now (dst .exit)) (restorationOf
+        (restorationConfig angle «blur_length» iterations relaxation border «border_value»))
+        (now (scratch .entry)) (now (scratch .exit)) (now (direction .entry)) (now (direction .exit)) r ⌝ }
 {
     let config = restoration_config(
         angle,
@@ -132,9 +124,10 @@ pub extern "C" fn smear_van_cittert_estimate(
     scratch: &mut [i32],
     direction: &mut u8,
 ) -> u8
-    ensures { λ r. ⌜ CalledC (Estimated (now (src .entry)) width height stride (now (dst .entry)) (now (dst .exit))
-        (restorationOf (restorationConfig angle «blur_length» iterations relaxation border «border_value»)) (now (scratch .entry)) (now (scratch .exit)))
-        (now (direction .entry)) (now (direction .exit)) r ⌝ }
+    ensures { λ r. ⌜ EstimateWrittenC (gray8 (now (src .entry)) width height stride)
+        (now (dst .entry)) (now (dst .exit))
+        (restorationOf (restorationConfig angle «blur_length» iterations relaxation border «border_value»))
+        (now (scratch .entry)) (now (scratch .exit)) (now (direction .entry)) (now (direction .exit)) r ⌝ }
 {
     let config = restoration_config(
         angle,
@@ -174,9 +167,10 @@ pub extern "C" fn smear_directional_unsharp_line(
     scratch: &mut [i32],
     direction: &mut u8,
 ) -> u8
-    ensures { λ r. ⌜ CalledC (Filtered (now (src .entry)) width height stride (now (dst .entry)) (now (dst .exit)) «dst_width» «dst_height» «dst_stride»
-        (unsharpOf (unsharpConfig angle «blur_length» gain border «border_value»)) (now (scratch .entry)) (now (scratch .exit)))
-        (now (direction .entry)) (now (direction .exit)) r ⌝ }
+    ensures { λ r. ⌜ FilteredC (gray8 (now (src .entry)) width height stride)
+        (gray8 (now (dst .entry)) «dst_width» «dst_height» «dst_stride»)
+        (now (dst .exit)) (unsharpOf (unsharpConfig angle «blur_length» gain border «border_value»))
+        (now (scratch .entry)) (now (scratch .exit)) (now (direction .entry)) (now (direction .exit)) r ⌝ }
 {
     let config = unsharp_config(angle, blur_length, gain, border, border_value);
     let answer = deblur::directional_unsharp_line_into(

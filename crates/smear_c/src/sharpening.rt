@@ -1,5 +1,6 @@
 // The binomial unsharp.
-ghost use Rattle.sharpen.specs.Call.{Sharpened, answerOf};
+ghost use Rattle.image.specs.Call.{gray8};
+ghost use Rattle.smear_c.specs.Sharpening.{SharpenedC};
 
 #[no_mangle]
 pub extern "C" fn smear_fixed_binomial_unsharp(
@@ -13,7 +14,9 @@ pub extern "C" fn smear_fixed_binomial_unsharp(
     dst_stride: usize,
     scratch: &mut [u16],
 ) -> u8
-    ensures { λ r. ⌜ Sharpened (now (src .entry)) width height stride (now (dst .entry)) «dst_width» «dst_height» «dst_stride» (now (scratch .entry)) (now (dst .exit)) (now (scratch .exit)) (answerOf r) ⌝ }
+    ensures { λ r. ⌜ SharpenedC (gray8 (now (src .entry)) width height stride)
+        (gray8 (now (dst .entry)) «dst_width» «dst_height» «dst_stride»)
+        (now (dst .exit)) (now (scratch .entry)) (now (scratch .exit)) r ⌝ }
 {
     sharpen::fixed_binomial_unsharp_into(
         src,

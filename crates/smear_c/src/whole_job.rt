@@ -1,10 +1,11 @@
 // The whole job for C.
 ghost use mathlib.Core.Path.{_≡_};
-ghost use Rattle.job.specs.Job.{Restored};
-ghost use Rattle.smear_c.specs.WholeJob.{jobConfig, JobGiven, JobCalled};
-use crate::restoration::border_of;
+ghost use Rattle.image.specs.Call.{gray8, Returns};
+ghost use Rattle.job.specs.Job.{jobDecided};
+ghost use Rattle.smear_c.specs.WholeJob.{jobConfig, outs, jobOuts, RestoredC};
 use job::JobAnswer;
 use job::JobConfig;
+use raster::border::LineBorderMode;
 use swings::Swing;
 
 fn job_config(
@@ -22,7 +23,7 @@ fn job_config(
         minimum_amplitude,
         iterations,
         relaxation,
-        border: border_of(border, value),
+        border: LineBorderMode::from_code(border, value),
     }
 }
 
@@ -33,9 +34,9 @@ fn return_job(
     blur_length: &mut usize,
     estimate: &mut f64,
 ) -> u8
-    ensures { λ r. ⌜ JobGiven answer
-        (record { direction = now (direction .entry); blur-length = now («blur_length» .entry); estimate = now (estimate .entry) })
-        (record { direction = now (direction .exit); blur-length = now («blur_length» .exit); estimate = now (estimate .exit) })
+    ensures { λ r. ⌜ Returns (jobDecided answer) jobOuts
+        (outs (now (direction .entry)) (now («blur_length» .entry)) (now (estimate .entry)))
+        (outs (now (direction .exit)) (now («blur_length» .exit)) (now (estimate .exit)))
         r ⌝ }
 {
     match answer {
@@ -74,11 +75,13 @@ pub extern "C" fn smear_restore(
     blur_length: &mut usize,
     estimate: &mut f64,
 ) -> u8
-    ensures { λ r. ⌜ JobCalled (Restored (now (src .entry)) width height stride (now (dst .entry)) (now (dst .exit)) «dst_width» «dst_height» «dst_stride»
-        (jobConfig «minimum_transitions» «minimum_amplitude» iterations relaxation border «border_value»)
-        (now (scratch .entry)) (now (scratch .exit)) (now (swings .entry)) (now (swings .exit)))
-        (record { direction = now (direction .entry); blur-length = now («blur_length» .entry); estimate = now (estimate .entry) })
-        (record { direction = now (direction .exit); blur-length = now («blur_length» .exit); estimate = now (estimate .exit) })
+    ensures { λ r. ⌜ RestoredC (gray8 (now (src .entry)) width height stride)
+        (gray8 (now (dst .entry)) «dst_width» «dst_height» «dst_stride»)
+        (now (dst .exit)) (jobConfig «minimum_transitions» «minimum_amplitude» iterations
+        relaxation border «border_value»)
+        (now (scratch .entry)) (now (scratch .exit)) (now (swings .entry)) (now (swings .exit))
+        (outs (now (direction .entry)) (now («blur_length» .entry)) (now (estimate .entry)))
+        (outs (now (direction .exit)) (now («blur_length» .exit)) (now (estimate .exit)))
         r ⌝ }
 {
     let config = job_config(

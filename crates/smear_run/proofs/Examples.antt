@@ -10,10 +10,10 @@ use Rattle.image.specs.Refusal.{layoutRefusal, pairRefusal}
 use Rattle.raster.specs.Border.{borderMap}
 use Rattle.raster.specs.Direction.{fromAngle}
 use Rattle.raster.specs.Lines.{startCol, startRow, lineOf}
-use Rattle.line.specs.Line.{sample, window, mean, stepped, after}
-use Rattle.deblur.specs.Calls.{estimateOf}
+use Rattle.line.specs.Iteration.{mean, stepped, after}
+use Rattle.line.specs.Line.{sample, window}
 use Rattle.deblur.specs.Picture.{estimateOn, estimate}
-use Rattle.deblur.specs.Refusal.{settingsRefusal, filterRefusal}
+use Rattle.deblur.specs.Refusal.{blurLengthRefusal, angleRefusal, factorRefusal, iterationsRefusal, filterRefusal}
 use Rattle.sharpen.specs.Binomial.{tapPlace, binomialSum, sharper}
 use Rattle.sharpen.specs.Call.{binomialRefusal}
 use Rattle.record.specs.Bytes.{littleEndian, bytesOf}
@@ -23,14 +23,18 @@ use Rattle.smear_run.specs.Stage.{stage}
 use Rattle.smear_run.specs.Output.{refusedText, tabulate, output}
 
 job : List ℕ
-job = 0x05 ∷ 0x00 ∷ 0x01 ∷ 0x00 ∷ 0x00 ∷ 0x00 ∷ 0x00 ∷ 0x01 ∷ 0x03 ∷ 0x00 ∷ 0x01 ∷ 0x00 ∷ 0x00 ∷ 0x00 ∷ 0x01 ∷ 0x00 ∷ replicate 16 0x00
+job = 0x05 ∷ 0x00 ∷ 0x01 ∷ 0x00 ∷ 0x00 ∷ 0x00 ∷ 0x00 ∷ 0x01 ∷ 0x03 ∷ 0x00 ∷ 0x01 ∷ 0x00 ∷ 0x00 ∷ 0x00 ∷ 0x01
+    ∷ 0x00 ∷ replicate 16 0x00
 
 row : List ℕ
 row = 10 ∷ 10 ∷ 40 ∷ 10 ∷ 10 ∷ []
 
 -- "The row above, one iteration"
 one : output job row ≡ 0x0A ∷ 0x00 ∷ 0x3C ∷ 0x00 ∷ 0x0A ∷ job
-unfolding job row output stage tabulate readRecord decoded legal recordOf littleEndian ofBits toBits factorOf div ofInt lt isJob filterRefusal pairRefusal layoutRefusal settingsRefusal within estimateOf estimate estimateOn after stepped mean window sample borderMap total startCol startRow lineOf fromAngle mul rem add roundedQ16 recordFields filterQ isFactor fieldsOf quantized encoded bytesOf
+unfolding job row output stage tabulate readRecord decoded legal recordOf littleEndian ofBits toBits factorOf div ofInt
+    lt isJob filterRefusal pairRefusal layoutRefusal blurLengthRefusal angleRefusal factorRefusal iterationsRefusal
+    within estimate estimateOn after stepped mean window sample borderMap total startCol startRow lineOf fromAngle mul
+    rem add roundedQ16 recordFields filterQ isFactor fieldsOf quantized encoded bytesOf
 one = refl
 
 -- "Binomial unsharp" of the same row; its result is its job
@@ -38,12 +42,16 @@ binomialJob : List ℕ
 binomialJob = 0x05 ∷ 0x00 ∷ 0x01 ∷ 0x00 ∷ 0x00 ∷ 0x00 ∷ 0x00 ∷ 0x03 ∷ replicate 24 0x00
 
 binomial : output binomialJob row ≡ 8 ∷ 2 ∷ 59 ∷ 2 ∷ 8 ∷ binomialJob
-unfolding binomialJob row output stage tabulate readRecord decoded legal recordOf littleEndian ofBits toBits isJob binomialRefusal pairRefusal layoutRefusal binomialSum tapPlace sharper count recordFields filterQ fieldsOf encoded bytesOf lt
+unfolding binomialJob row output stage tabulate readRecord decoded legal recordOf littleEndian ofBits toBits isJob
+    binomialRefusal pairRefusal layoutRefusal binomialSum tapPlace sharper count recordFields filterQ
+    fieldsOf encoded bytesOf lt
 binomial = refl
 
 -- a picture that is a pixel short gives `refused 4`
 short : output job (take 4 row) ≡ 114 ∷ 101 ∷ 102 ∷ 117 ∷ 115 ∷ 101 ∷ 100 ∷ 32 ∷ 52 ∷ 10 ∷ []
-unfolding job row output stage readRecord decoded legal recordOf littleEndian ofBits toBits factorOf div ofInt lt isJob filterRefusal pairRefusal layoutRefusal settingsRefusal within refusedText
+unfolding job row output stage readRecord decoded legal recordOf littleEndian ofBits toBits factorOf div ofInt lt isJob
+    filterRefusal pairRefusal layoutRefusal blurLengthRefusal angleRefusal factorRefusal
+    iterationsRefusal within refusedText
 short = refl
 
 -- a record that is a byte short gives `refused 13`

@@ -45,7 +45,8 @@ front-joined n e old ys h k same =
     let l : length (take n old ++ ys) ≡ e = length-append (take n old) ys ∙ omega arith in
     record {
       count = sym l;
-      bytes = ap (take e) (sym (append-assoc (take n old) ys (drop (e - n) (drop n old)))) ∙ take-at (take n old ++ ys) (drop (e - n) (drop n old)) e l;
+      bytes = ap (take e) (sym (append-assoc (take n old) ys (drop (e - n) (drop n old))))
+          ∙ take-at (take n old ++ ys) (drop (e - n) (drop n old)) e l;
     }
 
 -- ---- a tight picture
@@ -61,7 +62,8 @@ getD-tabulate f zero i h = absurd (not-suc-le-zero h)
 getD-tabulate f (suc n) zero h = refl
 getD-tabulate f (suc n) (suc i) h = getD-tabulate (λ j. f (suc j)) n i (le-of-suc-le-suc h)
 
-pub painted-list : (px : ℕ → ℕ → ℕ) (w h : ℕ) {old new : List ℕ} → Painted 0 px w h w old new → length new ≡ w * h → new ≡ pixelsOf w h px
+pub painted-list : (px : ℕ → ℕ → ℕ) (w h : ℕ) {old new : List ℕ} → Painted 0 px w h w old new
+    → length new ≡ w * h → new ≡ pixelsOf w h px
 painted-list px w h {old} {new} P e =
     ext-getD 0 new (pixelsOf w h px) (e ∙ sym (length-tabulate (λ i. px (i % w) (i / w)) (w * h)))
     (λ i b.

@@ -7,12 +7,13 @@ use borrow.Author.Tests.{ltb-true, ltb-false}
 use lib.Dec.{ltb, lit≤}
 use lib.ListN.{length, length-append}
 use Rattle.numbers.proofs.Test.{by-test}
+use Rattle.image.specs.Call.{Decision, accepts, refuses}
 use Rattle.record.specs.Record.{recordFields, writeBytes, readRecord, isJob}
 use Rattle.record.specs.declared.Record.{Record}
 use Rattle.record.specs.declared.ReadAnswer.{ReadAnswer}
 use Rattle.record.specs.declared.ReadAnswer.the-variants as read
 use Rattle.record.proofs.Answer.{record-bytes-most}
-use Rattle.smear_run.specs.Stage.{Outcome, done, refused, stage}
+use Rattle.smear_run.specs.Stage.{Made, stage}
 use Rattle.smear_run.specs.Output.{refusedText, pixelsOf, printed, jobOutput, outputOf, output}
 use Rattle.smear_run.proofs.Fronts.{length-tabulate}
 use Rattle.smear_run.proofs.Printed.{no-job, too-large, of-stage}
@@ -21,16 +22,17 @@ text-most : (n : ℕ) → length (refusedText n) ≤ 4128
 unfolding refusedText
 text-most n = go (ltb n 10)
   where
-    go : (b : Bool) → length (114 ∷ 101 ∷ 102 ∷ 117 ∷ 115 ∷ 101 ∷ 100 ∷ 32 ∷ cond b ((48 + n % 10) ∷ 10 ∷ []) ((48 + n / 10) ∷ (48 + n % 10) ∷ 10 ∷ [])) ≤ 4128
+    go : (b : Bool) → length (114 ∷ 101 ∷ 102 ∷ 117 ∷ 115 ∷ 101 ∷ 100 ∷ 32
+        ∷ cond b ((48 + n % 10) ∷ 10 ∷ []) ((48 + n / 10) ∷ (48 + n % 10) ∷ 10 ∷ [])) ≤ 4128
     go true = lit≤ tt
     go false = lit≤ tt
 
-printed-most : (r : Record) (o : Outcome) → r .width * r .height ≤ 4096 → length (printed r o) ≤ 4128
-printed-most r (refused number) h = text-most number
-printed-most r (done result px) h =
-    let l = length-append (pixelsOf (r .width) (r .height) px) (writeBytes (recordFields result) []) in
-    let p = length-tabulate (λ i. px (i % r .width) (i / r .width)) (r .width * r .height) in
-    let b = record-bytes-most result in
+printed-most : (r : Record) (d : Decision Made) → r .width * r .height ≤ 4096 → length (printed r d) ≤ 4128
+printed-most r (refuses number) h = text-most number
+printed-most r (accepts m) h =
+    let l = length-append (pixelsOf (r .width) (r .height) (m .pixels)) (writeBytes (recordFields (m .result)) []) in
+    let p = length-tabulate (λ i. m .pixels (i % r .width) (i / r .width)) (r .width * r .height) in
+    let b = record-bytes-most (m .result) in
     omega arith
 
 job-most : (r : Record) (picture : List ℕ) → length (jobOutput r picture) ≤ 4128
@@ -38,7 +40,8 @@ job-most r picture =
     by-test (isJob r)
     (λ j.
     by-test (ltb 4096 (r .width * r .height)) (λ t. rw (too-large r picture j (ltb-true 4096 _ t)) (lit≤ tt))
-    (λ t. let h = ltb-false 4096 (r .width * r .height) t in rw (of-stage r picture j h) (printed-most r (stage r picture) h)))
+    (λ t. let h = ltb-false 4096 (r .width * r .height) t in rw (of-stage r picture j h)
+    (printed-most r (stage r picture) h)))
     (λ j. rw (no-job r picture j) (text-most 13))
 
 pub output-most : (job picture : List ℕ) → length (output job picture) ≤ 4128

@@ -1,21 +1,22 @@
 -- What is printed, case by case; and what the call answers.
-use mathlib.Core.Path.{_≡_, sym, ap, _∙_}
+use mathlib.Core.Path.{_≡_, refl, sym, ap, _∙_}
 use mathlib.Core.Bool.{true, false}
 use mathlib.Core.List.{List, _++_}
 use Prim.Native.Nat.{ℕ, _+_, _-_, _*_, _≤_, _<_}
 use native.Mathlib.Omega.{arith}
-use borrow.Author.Tests.{ltb-false, lt-ltb, le-ltb}
-use lib.Dec.{ltb}
-use lib.ListN.{length, take, drop}
+use borrow.Author.Tests.{lt-ltb, le-ltb}
+use lib.ListN.{length, length-append, take, drop}
 use lib.Seq.{take-length, take-at, length-take-le}
 use Rattle.numbers.proofs.List.{length-part}
-use Rattle.numbers.proofs.Test.{by-test}
+use Rattle.image.specs.Call.{Decision, accepts, refuses, Outcome}
+use Rattle.image.proofs.Call.{outcome-accepted, outcome-refused}
 use Rattle.record.specs.Record.{recordFields, writeNumber, readRecord, isJob, Wrote}
 use Rattle.record.specs.declared.Record.{Record}
 use Rattle.record.specs.declared.ReadAnswer.the-variants as read
 use Rattle.record.proofs.Answer.{wrote-number, wrote-bytes}
 use Rattle.smear_run.specs.Stage.{stage}
-use Rattle.smear_run.specs.Output.{refusedText, tooLarge, thenRecord, printed, jobOutput, output, answerOf, Ran}
+use Rattle.smear_run.specs.Output.{refusedText, tooLarge, thenRecord, printed, jobOutput, output, runDecision}
+use Rattle.smear_run.specs.Output.{runAnswer, runWrites, Ran}
 use Rattle.smear_run.specs.Parts.{Front, Filtered, finished}
 use Rattle.smear_run.specs.declared.filters.FilterAnswer.{FilterAnswer}
 use Rattle.smear_run.specs.declared.RunAnswer.{RunAnswer}
@@ -37,9 +38,12 @@ module _ (r : Record) (picture : List ℕ) where
   of-stage e h = rw (e, le-ltb 4096 (r .width * r .height) h)
 
   -- the filter's answer, and its pixels in a part that has come back as ys
-  pub stage-printed : (made ys : List ℕ) (answer : FilterAnswer) {new : List ℕ} {n : ℕ} → r .width * r .height ≤ length made
-      → length ys ≡ length (take (r .width * r .height) made) → Filtered (stage r picture) r (take (r .width * r .height) made) ys answer
-      → Front (finished answer (take (r .width * r .height) (ys ++ drop (r .width * r .height) made))) new n → Front (printed r (stage r picture)) new n
+  pub stage-printed : (made ys : List ℕ) (answer : FilterAnswer) {new : List ℕ} {n : ℕ}
+      → r .width * r .height ≤ length made
+      → length ys ≡ length (take (r .width * r .height) made)
+      → Filtered (stage r picture) r (take (r .width * r .height) made) ys answer
+      → Front (finished answer (take (r .width * r .height) (ys ++ drop (r .width * r .height) made))) new n
+      → Front (printed r (stage r picture)) new n
   stage-printed made ys answer fits same f end =
       let l = same ∙ length-take-le (r .width * r .height) made fits in
       let front = take-at ys (drop (r .width * r .height) made) (r .width * r .height) l in
@@ -48,11 +52,13 @@ module _ (r : Record) (picture : List ℕ) where
 
 -- ---- the record behind n pixels, in a part up to e
 
-module _ (r : Record) (n e : ℕ) (made ys : List ℕ) (number : ℕ) (behind : e ≡ n + 32) (fits : e ≤ length made) (w : Wrote r (take (e - n) (drop n made)) ys number) where
+module _ (r : Record) (n e : ℕ) (made ys : List ℕ) (number : ℕ) (behind : e ≡ n + 32) (fits : e ≤ length made)
+    (w : Wrote r (take (e - n) (drop n made)) ys number) where
   room : length (take (e - n) (drop n made)) ≡ 32
   room = length-part n (e - n) made (omega arith) ∙ omega arith
 
-  pub then-written : writeNumber (recordFields r) ≡ 0 → length ys ≡ length (take (e - n) (drop n made)) → Front (thenRecord (take n made) r) (take n made ++ (ys ++ drop (e - n) (drop n made))) e
+  pub then-written : writeNumber (recordFields r) ≡ 0 → length ys ≡ length (take (e - n) (drop n made))
+      → Front (thenRecord (take n made) r) (take n made ++ (ys ++ drop (e - n) (drop n made))) e
   then-written legal same =
       let none = wrote-number r (take (e - n) (drop n made)) ys room number w ∙ legal in
       let w′ : Wrote r (take (e - n) (drop n made)) ys 0 = rw none at w in
@@ -72,30 +78,36 @@ module _ (job picture : List ℕ) where
 
   module _ {made : List ℕ} {n : ℕ} (f : Front (output job picture) made n) (old : List ℕ) where
     pub ran-short : length old < n → Ran job picture old old (Refused 10)
-    ran-short h = let t = lt-ltb (length old) (length (output job picture)) (rw (f .count) at h) in record { answered = rw t; bytes = rw t }
+    ran-short h =
+        let t = lt-ltb (length old) (length (output job picture)) (rw (f .count) at h) in
+        let d : runDecision (length old) (output job picture) ≡ refuses 10 = rw t in
+        outcome-refused runAnswer runWrites old tt 10 d refl
 
-    pub ran-whole : {new : List ℕ} → n ≤ length old → new ≡ take (length (take n made)) (take n made) ++ drop (length (take n made)) old → Ran job picture old new (Written n)
-    ran-whole h e =
+    pub ran-whole : {new : List ℕ} → n ≤ length old
+        → new ≡ take (length (take n made)) (take n made) ++ drop (length (take n made)) old
+        → Ran job picture old new (Written n)
+    ran-whole {new} h e =
         let t = le-ltb (length old) (length (output job picture)) (rw (f .count) at h) in
+        let d : runDecision (length old) (output job picture) ≡ accepts (output job picture) = rw t in
         let same = e ∙ ap (λ (xs : List ℕ). take (length xs) xs ++ drop (length xs) old) (f .bytes) in
-        let all = ap (λ (xs : List ℕ). xs ++ drop (length (output job picture)) old) (take-length (output job picture)) in
-        record { answered = rw t (ap Written (f .count)); bytes = rw t (same ∙ all) }
+        let all = ap (λ (xs : List ℕ). xs ++ drop (length (output job picture)) old)
+        (take-length (output job picture)) in
+        outcome-accepted runAnswer runWrites old tt (output job picture) new tt d (ap Written (f .count)) (same ∙ all)
 
 -- what was written fits
-pub ran-fits : {job picture old new : List ℕ} {answer : RunAnswer} {n : ℕ} → Ran job picture old new answer → answer ≡ Written n → n ≤ length old
-ran-fits {job} {picture} {old} {n = n} ran e = by-test (ltb (length old) (length (output job picture))) short whole
+pub ran-fits : {decision : Decision (List ℕ)} {old new : List ℕ} {answer : RunAnswer} {n : ℕ}
+    → Outcome decision runAnswer runWrites old new (tt {0}) (tt {0}) answer
+    → length new ≡ length old → answer ≡ Written n
+    → n ≤ length old
+ran-fits {decision} {old} {new} {answer} {n} ran same e = go decision refl
   where
-    said : answerOf (length old) (output job picture) ≡ Written n
-    said = sym (ran .answered) ∙ e
-
-    short : ltb (length old) (length (output job picture)) ≡ true → n ≤ length old
-    short t =
-        let same : Refused 10 ≡ Written n = rw t at said in
+    go : (d : Decision (List ℕ)) → decision ≡ d → n ≤ length old
+    go (accepts xs) is =
+        let said = sym e ∙ ran .answered ∙ ap runAnswer is in
+        let l : n ≡ length xs = cc in
+        let all = sym same ∙ ap length (ran .written xs is) ∙ length-append xs (drop (length xs) old) in
+        omega arith
+    go (refuses number) is =
+        let said = sym e ∙ ran .answered ∙ ap runAnswer is in
         let z : _≡_ {A = ℕ} 0 1 = cc in
         absurd (omega arith)
-
-    whole : ltb (length old) (length (output job picture)) ≡ false → n ≤ length old
-    whole t =
-        let same : Written (length (output job picture)) ≡ Written n = rw t at said in
-        let l : length (output job picture) ≡ n = cc in
-        rw (← l) (ltb-false (length old) (length (output job picture)) t)

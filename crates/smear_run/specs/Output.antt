@@ -5,11 +5,12 @@ use mathlib.Core.List.{List, [], _∷_, _++_}
 use Prim.Native.Nat.{ℕ, zero, suc, _+_, _*_, _/_, _%_}
 use lib.Dec.{ltb}
 use lib.ListN.{length, drop}
+use Rattle.image.specs.Call.{Decision, accepts, refuses, Outcome}
 use Rattle.record.specs.Record.{recordFields, writeBytes, readRecord, isJob}
 use Rattle.record.specs.declared.Record.{Record}
 use Rattle.record.specs.declared.ReadAnswer.{ReadAnswer}
 use Rattle.record.specs.declared.ReadAnswer.the-variants as read
-use Rattle.smear_run.specs.Stage.{Outcome, done, refused, stage}
+use Rattle.smear_run.specs.Stage.{Made, stage}
 use Rattle.smear_run.specs.declared.RunAnswer.{RunAnswer}
 use Rattle.smear_run.specs.declared.RunAnswer.the-variants.{Written, Refused}
 
@@ -18,7 +19,8 @@ use Rattle.smear_run.specs.declared.RunAnswer.the-variants.{Written, Ref
 -- `refused N`; a number below 100
 unfoldable pub refusedText : ℕ → List ℕ
 refusedText n =
-    114 ∷ 101 ∷ 102 ∷ 117 ∷ 115 ∷ 101 ∷ 100 ∷ 32 ∷ cond (ltb n 10) ((48 + n % 10) ∷ 10 ∷ []) ((48 + n / 10) ∷ (48 + n % 10) ∷ 10 ∷ [])
+    114 ∷ 101 ∷ 102 ∷ 117 ∷ 115 ∷ 101 ∷ 100 ∷ 32
+    ∷ cond (ltb n 10) ((48 + n % 10) ∷ 10 ∷ []) ((48 + n / 10) ∷ (48 + n % 10) ∷ 10 ∷ [])
 
 -- `too large`
 abbrev pub tooLarge : List ℕ
@@ -39,11 +41,12 @@ pixelsOf width height px = tabulate (λ i. px (i % width) (i / width)) (width * 
 abbrev pub thenRecord : List ℕ → Record → List ℕ
 thenRecord pixels result = pixels ++ writeBytes (recordFields result) []
 
-abbrev pub printed : Record → Outcome → List ℕ
-printed r (done result px) = thenRecord (pixelsOf (r .width) (r .height) px) result
-printed r (refused number) = refusedText number
+abbrev pub printed : Record → Decision Made → List ℕ
+printed r (accepts m) = thenRecord (pixelsOf (r .width) (r .height) (m .pixels)) (m .result)
+printed r (refuses number) = refusedText number
 
--- ---- "A record that is no job gives 13; next, width × height above 4,096 prints `too large`; a refusal prints `refused N`."
+-- ---- "A record that is no job gives 13; next, width × height above 4,096 prints `too large`; a refusal prints
+-- `refused N`."
 
 unfoldable pub jobOutput : Record → List ℕ → List ℕ
 jobOutput r picture =
@@ -57,14 +60,21 @@ unfoldable pub output : List ℕ → List ℕ → List ℕ
 unfolding jobOutput
 output job picture = outputOf (readRecord job) picture
 
--- ---- the call: the output in the front of the slice, the rest as before; 10 where the slice is shorter, which leaves it as it was
+-- ---- the call
 
-abbrev pub answerOf : ℕ → List ℕ → RunAnswer
-answerOf room xs = cond (ltb room (length xs)) (Refused 10) (Written (length xs))
+-- what is printed, or 10 where there is no room for it
+abbrev pub runDecision : ℕ → List ℕ → Decision (List ℕ)
+runDecision room xs = cond (ltb room (length xs)) (refuses 10) (accepts xs)
 
-abbrev pub bytesOf : List ℕ → List ℕ → List ℕ
-bytesOf old xs = cond (ltb (length old) (length xs)) old (xs ++ drop (length xs) old)
+-- how many bytes are printed
+abbrev pub runAnswer : Decision (List ℕ) → RunAnswer
+runAnswer (accepts xs) = Written (length xs)
+runAnswer (refuses number) = Refused number
 
-pub record Ran (job picture old new : List ℕ) (answer : RunAnswer) : Type 0 where
-  pub answered : answer ≡ answerOf (length old) (output job picture)
-  pub bytes : new ≡ bytesOf old (output job picture)
+-- in the front of the slice, the rest as before
+abbrev pub runWrites : List ℕ → List ℕ → List ℕ → Type 0
+runWrites xs old new = new ≡ xs ++ drop (length xs) old
+
+abbrev pub Ran : List ℕ → List ℕ → List ℕ → List ℕ → RunAnswer → Type 0
+Ran job picture old new answer =
+    Outcome (runDecision (length old) (output job picture)) runAnswer runWrites old new (tt {0}) (tt {0}) answer

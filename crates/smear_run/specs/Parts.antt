@@ -8,14 +8,15 @@ use Rattle.deblur.specs.declared.RestorationAnswer.{RestorationAnswer}
 use Rattle.deblur.specs.declared.RestorationAnswer.the-variants as line
 use Rattle.sharpen.specs.declared.SharpenAnswer.{SharpenAnswer}
 use Rattle.sharpen.specs.declared.SharpenAnswer.the-variants as sharpen
-use Rattle.job.specs.Job.{jobOf, plan, Destination}
+use Rattle.image.specs.Call.{gray8, Decision, accepts, refuses, Outcome}
+use Rattle.job.specs.Job.{jobAnswer, jobWrites}
 use Rattle.job.specs.declared.JobAnswer.{JobAnswer}
 use Rattle.job.specs.declared.JobAnswer.the-variants as job
 use Rattle.job.specs.declared.JobConfig.{JobConfig}
 use Rattle.record.specs.Record.{recordFields, writeNumber, readRecord}
 use Rattle.record.specs.declared.Record.{Record}
 use Rattle.record.specs.declared.ReadAnswer.the-variants as read
-use Rattle.smear_run.specs.Stage.{Outcome, done, refused, withDirection, jobResult}
+use Rattle.smear_run.specs.Stage.{Made, withDirection, jobResult, planned}
 use Rattle.smear_run.specs.Output.{refusedText, thenRecord}
 use Rattle.smear_run.specs.declared.filters.FilterAnswer.{FilterAnswer}
 use Rattle.smear_run.specs.declared.filters.FilterAnswer.the-variants.{Done, Refused}
@@ -31,23 +32,31 @@ abbrev pub lineAnswer : Record → RestorationAnswer → FilterAnswer
 lineAnswer r (line.Done metadata) = Done (withDirection r (metadata .«raster_direction»))
 lineAnswer r (line.Refused number) = Refused number
 
-abbrev pub jobAnswer : Record → JobAnswer → FilterAnswer
-jobAnswer r (job.Done result) = Done (jobResult r result)
-jobAnswer r (job.Refused number) = Refused number
+abbrev pub measuredAnswer : Record → JobAnswer → FilterAnswer
+measuredAnswer r (job.Done result) = Done (jobResult r result)
+measuredAnswer r (job.Refused number) = Refused number
 
 abbrev pub binomialAnswer : Record → SharpenAnswer → FilterAnswer
 binomialAnswer r sharpen.Done = Done r
 binomialAnswer r (sharpen.Refused number) = Refused number
 
--- the outcome's answer; a done one's pixels are in the tight destination
-abbrev pub Filtered : Outcome → Record → List ℕ → List ℕ → FilterAnswer → Type 0
-Filtered (done result px) r old new answer = (answer ≡ Done result) × Painted 0 px (r .width) (r .height) (r .width) old new
-Filtered (refused number) r old new answer = answer ≡ Refused number
+abbrev pub filterAnswer : Decision Made → FilterAnswer
+filterAnswer (accepts m) = Done (m .result)
+filterAnswer (refuses number) = Refused number
 
--- the whole job with 4,096 records and scratch of so many i32
-pub record Measured (picture : List ℕ) (width height : ℕ) (config : JobConfig) (scratchLen : ℕ) (old new : List ℕ) (answer : JobAnswer) : Type 0 where
-  pub answered : answer ≡ plan (jobOf picture width height width (length old) width height width config scratchLen 4096)
-  pub destination : Destination picture width height width width config answer old new
+-- the pixels go to a tight destination
+abbrev pub filterWrites : Record → Made → List ℕ → List ℕ → Type 0
+filterWrites r m old new = Painted 0 (m .pixels) (r .width) (r .height) (r .width) old new
+
+-- a filter owns its scratch
+abbrev pub Filtered : Decision Made → Record → List ℕ → List ℕ → FilterAnswer → Type 0
+Filtered decision r old new answer = Outcome decision filterAnswer (filterWrites r) old new (tt {0}) (tt {0}) answer
+
+-- the whole job with 4,096 records and scratch of so many i32, neither of which is spoken of after
+abbrev pub Measured : List ℕ → ℕ → ℕ → JobConfig → ℕ → List ℕ → List ℕ → JobAnswer → Type 0
+Measured picture width height config scratchLen old new answer =
+    Outcome (planned picture width height (length old) config scratchLen) jobAnswer
+    (jobWrites (gray8 picture width height width) width config) old new (tt {0}) (tt {0}) answer
 
 -- ---- the end
 

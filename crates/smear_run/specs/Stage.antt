@@ -1,41 +1,40 @@
--- What a job's filter makes of a tight picture (document 01, "The 32-byte record"): the result's record and its pixels, or a refusal.
-use Prim.Native.Nat.{ℕ, zero, suc, _*_}
-use mathlib.Core.Bool.{cond}
+-- What a job's filter makes of a tight picture (document 01, "The 32-byte record"): the result's record and its pixels,
+-- or a refusal.
+use Prim.Native.Nat.{ℕ, _*_}
 use mathlib.Core.List.{List}
-use lib.Dec.{eqb}
 use lib.Ieee.{Float}
 use lib.ListN.{length}
 use Rattle.numbers.specs.Scalar.{clampByte}
+use Rattle.image.specs.Call.{Gray8, gray8, Decision, accepts, refuses, decided}
 use Rattle.image.specs.Picture.{pixel}
-use Rattle.raster.specs.Direction.{fromAngle}
 use Rattle.raster.specs.declared.direction.RasterDirection4.{RasterDirection4}
-use Rattle.deblur.specs.Calls.{estimateOf}
+use Rattle.deblur.specs.Calls.{lastEstimate}
 use Rattle.deblur.specs.Refusal.{filterRefusal}
-use Rattle.deblur.specs.Settings.{restorationOf, unsharpOf}
+use Rattle.deblur.specs.Settings.{LineFilter, restorationOf, unsharpOf}
 use Rattle.deblur.specs.declared.DirectionalUnsharpConfig.{DirectionalUnsharpConfig}
-use Rattle.deblur.specs.declared.LineSettings.{LineSettings}
 use Rattle.deblur.specs.declared.VanCittertConfig.{VanCittertConfig}
 use Rattle.sharpen.specs.Binomial as binomial
 use Rattle.sharpen.specs.Call.{binomialRefusal}
-use Rattle.job.specs.Job.{jobDefault, jobOf, plan, jobEstimate}
-use Rattle.job.specs.declared.JobAnswer.{JobAnswer}
-use Rattle.job.specs.declared.JobAnswer.the-variants as answer
+use Rattle.job.specs.Job.{jobDefault, layout, jobOf, plan, jobEstimate}
 use Rattle.job.specs.declared.JobConfig.{JobConfig}
 use Rattle.job.specs.declared.JobResult.{JobResult}
 use Rattle.record.specs.Record.{usedIn}
 use Rattle.record.specs.declared.Record.{Record}
 use Rattle.record.specs.declared.RecordFilter.{RecordFilter}
-use Rattle.record.specs.declared.RecordFilter.the-variants.{Restoration, Unsharp, Binomial}
+use Rattle.record.specs.declared.RecordFilter.the-variants.{WholeJob, Restoration, Unsharp, Binomial}
 
--- the result and the pixel at each column and row, or the number of a refusal
-pub data Outcome : Type 0 where
-  done : Record → (ℕ → ℕ → ℕ) → Outcome
-  refused : ℕ → Outcome
+-- what a filter makes of a picture: the result, and the pixel at each column and row
+pub record Made : Type 0 where
+  pub result : Record
+  pub pixels : ℕ → ℕ → ℕ
 
--- 0 is no refusal
-abbrev pub unless : ℕ → Record → (ℕ → ℕ → ℕ) → Outcome
-unless zero result px = done result px
-unless (suc number) result px = refused (suc number)
+abbrev pub made : Record → (ℕ → ℕ → ℕ) → Made
+made result pixels = record { result = result; pixels = pixels }
+
+-- by what a call found
+abbrev pub makes : {R : Type 0} → (R → Made) → Decision R → Decision Made
+makes f (accepts found) = accepts (f found)
+makes f (refuses number) = refuses number
 
 -- a line filter adds its direction; the whole job, all that it measured
 abbrev pub withDirection : Record → RasterDirection4 → Record
@@ -46,8 +45,8 @@ jobResult r result = usedIn r (result .direction) (result .«blur_length») (res
 
 -- ---- the filters' settings
 
-abbrev pub restorationConfig : Record → Float → VanCittertConfig
-restorationConfig r relaxation = record {
+abbrev pub recordRestoration : Record → Float → VanCittertConfig
+recordRestoration r relaxation = record {
   «theta_radians» = r .angle;
   «blur_length» = r .«blur_length»;
   iterations = r .iterations;
@@ -55,8 +54,8 @@ restorationConfig r relaxation = record {
   border = r .border;
 }
 
-abbrev pub unsharpConfig : Record → Float → DirectionalUnsharpConfig
-unsharpConfig r gain = record {
+abbrev pub recordUnsharp : Record → Float → DirectionalUnsharpConfig
+recordUnsharp r gain = record {
   «theta_radians» = r .angle;
   «blur_length» = r .«blur_length»;
   gain = gain;
@@ -64,8 +63,8 @@ unsharpConfig r gain = record {
 }
 
 -- "the whole job with default thresholds"
-abbrev pub wholeJobConfig : Record → Float → JobConfig
-wholeJobConfig r relaxation = record {
+abbrev pub recordJob : Record → Float → JobConfig
+recordJob r relaxation = record {
   «minimum_transitions» = jobDefault .«minimum_transitions»;
   «minimum_amplitude» = jobDefault .«minimum_amplitude»;
   iterations = r .iterations;
@@ -75,41 +74,54 @@ wholeJobConfig r relaxation = record {
 
 -- ---- each filter on the tight picture, into a tight destination, with scratch for 4,096 pixels
 
-abbrev pub lineStage : Record → LineSettings → List ℕ → Outcome
-lineStage r s picture =
-    unless (filterRefusal (length picture) (r .width) (r .height) (r .width) (r .width * r .height) (r .width) (r .height) (r .width) s 12288)
-    (withDirection r (fromAngle (s .«theta_radians»)))
-    (λ c y. clampByte (estimateOf picture (r .width) (r .height) (r .width) s c y))
+-- a tight picture of the record's sides
+abbrev pub tight : Record → List ℕ → Gray8
+tight r bytes = gray8 bytes (r .width) (r .height) (r .width)
 
--- what the whole job answers, with scratch of so many i32
-abbrev pub planned : List ℕ → ℕ → ℕ → JobConfig → ℕ → JobAnswer
-planned picture width height config scratchLen =
-    plan (jobOf picture width height width (width * height) width height width config scratchLen 4096)
+abbrev pub lineMade : Record → LineFilter → List ℕ → RasterDirection4 → Made
+lineMade r f picture d =
+    made (withDirection r d) (λ c y. clampByte (lastEstimate (tight r picture) (f .kernel) d c y))
 
-abbrev pub jobStage : Record → JobConfig → List ℕ → JobAnswer → Outcome
-jobStage r config picture (answer.Done result) =
-    done (jobResult r result)
-    (λ c y. clampByte (jobEstimate picture (r .width) (r .height) (r .width) config result (config .iterations) c y))
-jobStage r config picture (answer.Refused number) = refused number
+abbrev pub lineStage : Record → LineFilter → List ℕ → Decision Made
+lineStage r f picture =
+    makes (lineMade r f picture)
+    (decided
+    (filterRefusal (length picture) (r .width) (r .height) (r .width) (r .width * r .height)
+    (r .width) (r .height) (r .width)
+    (f .refusal (r .width) (r .height)) 12288)
+    (f .direction))
 
-abbrev pub wholeJob : Record → Float → List ℕ → Outcome
+-- what the whole job comes to, with scratch of so many i32 and 4,096 records
+abbrev pub planned : List ℕ → ℕ → ℕ → ℕ → JobConfig → ℕ → Decision JobResult
+planned picture width height dstLen config scratchLen =
+    plan (jobOf (gray8 picture width height width) (layout dstLen width height width) config scratchLen 4096)
+
+abbrev pub jobMade : Record → JobConfig → List ℕ → JobResult → Made
+jobMade r config picture result =
+    made (jobResult r result) (λ c y. clampByte (jobEstimate (tight r picture) config result (config .iterations) c y))
+
+abbrev pub wholeJob : Record → Float → List ℕ → Decision Made
 wholeJob r relaxation picture =
-    jobStage r (wholeJobConfig r relaxation) picture
-    (planned picture (r .width) (r .height) (wholeJobConfig r relaxation) 12288)
+    let config = recordJob r relaxation in
+    makes (jobMade r config picture) (planned picture (r .width) (r .height) (r .width * r .height) config 12288)
 
 -- the binomial's result is its job
-abbrev pub binomialStage : Record → List ℕ → Outcome
-binomialStage r picture =
-    unless (binomialRefusal (length picture) (r .width) (r .height) (r .width) (r .width * r .height) (r .width) (r .height) (r .width) 4096)
-    r
-    (binomial.unsharp (pixel picture (r .width)) (r .width) (r .height))
+abbrev pub binomialMade : Record → List ℕ → Unit {0} → Made
+binomialMade r picture _ = made r (binomial.unsharp (pixel picture (r .width)) (r .width) (r .height))
 
--- "length 0 stands only with restoration and .. means the whole job"
-abbrev pub stageOf : RecordFilter → Record → List ℕ → Outcome
-stageOf (Restoration relaxation) r picture =
-    cond (eqb (r .«blur_length») 0) (wholeJob r relaxation picture) (lineStage r (restorationOf (restorationConfig r relaxation)) picture)
-stageOf (Unsharp gain) r picture = lineStage r (unsharpOf (unsharpConfig r gain)) picture
+abbrev pub binomialStage : Record → List ℕ → Decision Made
+binomialStage r picture =
+    makes (binomialMade r picture)
+    (decided
+    (binomialRefusal (length picture) (r .width) (r .height) (r .width) (r .width * r .height) (r .width) (r .height)
+    (r .width) 4096)
+    tt)
+
+abbrev pub stageOf : RecordFilter → Record → List ℕ → Decision Made
+stageOf (WholeJob relaxation) r picture = wholeJob r relaxation picture
+stageOf (Restoration relaxation) r picture = lineStage r (restorationOf (recordRestoration r relaxation)) picture
+stageOf (Unsharp gain) r picture = lineStage r (unsharpOf (recordUnsharp r gain)) picture
 stageOf Binomial r picture = binomialStage r picture
 
-unfoldable pub stage : Record → List ℕ → Outcome
+unfoldable pub stage : Record → List ℕ → Decision Made
 stage r picture = stageOf (r .filter) r picture

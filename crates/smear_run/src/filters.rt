@@ -4,7 +4,7 @@ ghost use Prim.Native.Nat.{_*_};
 ghost use lib.ListN.{length};
 ghost use Rattle.deblur.specs.Settings.{restorationOf, unsharpOf};
 ghost use Rattle.record.specs.Record.{usedIn};
-ghost use Rattle.smear_run.specs.Stage.{restorationConfig, unsharpConfig, lineStage, binomialStage, stage};
+ghost use Rattle.smear_run.specs.Stage.{recordRestoration, recordUnsharp, lineStage, binomialStage, stage};
 ghost use Rattle.smear_run.specs.Parts.{lineAnswer, binomialAnswer, Filtered};
 use crate::whole_job::whole_job;
 use deblur::DirectionalUnsharpConfig;
@@ -22,7 +22,7 @@ pub(crate) enum FilterAnswer {
 }
 
 fn restoration_config(record: Record, relaxation: f64) -> VanCittertConfig
-    ensures { λ r. ⌜ r ≡ restorationConfig «record» relaxation ⌝ }
+    ensures { λ r. ⌜ r ≡ recordRestoration «record» relaxation ⌝ }
 {
     let border = record.border;
     VanCittertConfig {
@@ -35,7 +35,7 @@ fn restoration_config(record: Record, relaxation: f64) -> VanCittertConfig
 }
 
 fn unsharp_config(record: Record, gain: f64) -> DirectionalUnsharpConfig
-    ensures { λ r. ⌜ r ≡ unsharpConfig «record» gain ⌝ }
+    ensures { λ r. ⌜ r ≡ recordUnsharp «record» gain ⌝ }
 {
     let border = record.border;
     DirectionalUnsharpConfig {
@@ -62,7 +62,7 @@ pub(crate) fn used(
         height: record.height,
         direction,
         border,
-        filter,
+        filter: filter.used(),
         blur_length,
         iterations: record.iterations,
         angle: record.angle,
@@ -86,7 +86,8 @@ fn line_answer(record: Record, answer: RestorationAnswer) -> FilterAnswer
 // On the stack: 12,288 i32, 49,152 bytes.
 fn restoration(record: Record, relaxation: f64, picture: &[u8], dst: &mut [u8]) -> FilterAnswer
     requires { ⌜ length (now dst) ≡ «record» .width * «record» .height ⌝ }
-    ensures { λ r. ⌜ Filtered (lineStage «record» (restorationOf (restorationConfig «record» relaxation)) (now (picture .entry))) «record» (now (dst .entry)) (now (dst .exit)) r ⌝ }
+    ensures { λ r. ⌜ Filtered (lineStage «record» (restorationOf (recordRestoration «record» relaxation))
+        (now (picture .entry))) «record» (now (dst .entry)) (now (dst .exit)) r ⌝ }
 {
     let mut scratch = [0i32; 12288];
     let width = record.width as usize;
@@ -110,7 +111,8 @@ fn restoration(record: Record, relaxation: f64, picture: &[u8], dst: &mut [u8]) 
 // On the stack: 12,288 i32, 49,152 bytes.
 fn unsharp(record: Record, gain: f64, picture: &[u8], dst: &mut [u8]) -> FilterAnswer
     requires { ⌜ length (now dst) ≡ «record» .width * «record» .height ⌝ }
-    ensures { λ r. ⌜ Filtered (lineStage «record» (unsharpOf (unsharpConfig «record» gain)) (now (picture .entry))) «record» (now (dst .entry)) (now (dst .exit)) r ⌝ }
+    ensures { λ r. ⌜ Filtered (lineStage «record» (unsharpOf (recordUnsharp «record» gain)) (now (picture .entry)))
+        «record» (now (dst .entry)) (now (dst .exit)) r ⌝ }
 {
     let mut scratch = [0i32; 12288];
     let width = record.width as usize;
@@ -144,7 +146,8 @@ fn binomial_answer(record: Record, answer: SharpenAnswer) -> FilterAnswer
 // On the stack: 4,096 u16, 8,192 bytes.
 fn binomial(record: Record, picture: &[u8], dst: &mut [u8]) -> FilterAnswer
     requires { ⌜ length (now dst) ≡ «record» .width * «record» .height ⌝ }
-    ensures { λ r. ⌜ Filtered (binomialStage «record» (now (picture .entry))) «record» (now (dst .entry)) (now (dst .exit)) r ⌝ }
+    ensures { λ r. ⌜ Filtered (binomialStage «record» (now (picture .entry))) «record»
+        (now (dst .entry)) (now (dst .exit)) r ⌝ }
 {
     let mut scratch = [0u16; 4096];
     let width = record.width as usize;
@@ -163,19 +166,16 @@ fn binomial(record: Record, picture: &[u8], dst: &mut [u8]) -> FilterAnswer
     binomial_answer(record, answer)
 }
 
-// The record's filter; length 0 stands for the whole job.
+// The record's filter.
 pub(crate) fn filter(record: Record, picture: &[u8], dst: &mut [u8]) -> FilterAnswer
     requires { ⌜ length (now dst) ≡ «record» .width * «record» .height ⌝ }
-    ensures { λ r. ⌜ Filtered (stage «record» (now (picture .entry))) «record» (now (dst .entry)) (now (dst .exit)) r ⌝ }
+    ensures { λ r. ⌜ Filtered (stage «record» (now (picture .entry))) «record»
+        (now (dst .entry)) (now (dst .exit)) r ⌝ }
 {
     let filter = record.filter;
     match filter {
-        RecordFilter::Restoration(relaxation) => {
-            if record.blur_length == 0 {
-                return whole_job(record, relaxation, picture, dst);
-            }
-            restoration(record, relaxation, picture, dst)
-        }
+        RecordFilter::WholeJob(relaxation) => whole_job(record, relaxation, picture, dst),
+        RecordFilter::Restoration(relaxation) => restoration(record, relaxation, picture, dst),
         RecordFilter::Unsharp(gain) => unsharp(record, gain, picture, dst),
         RecordFilter::Binomial => binomial(record, picture, dst),
     }

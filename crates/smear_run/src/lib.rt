@@ -14,8 +14,9 @@ pub enum RunAnswer {
     Refused(u8),
 }
 
-// What the program prints for a job's record and a tight picture, in the front of `out`: pixels and the result's record, or a text. 10 where
-// `out` is shorter than that, which is at most 4,128 bytes. On the stack: 4,128 bytes here, and what the filter owns (`filters`, `whole_job`).
+// What the program prints for a job's record and a tight picture, in the front of `out`: pixels and the result's
+// record, or a text. 10 where `out` is shorter than that, which is at most 4,128 bytes. On the stack: 4,128 bytes here,
+// and what the filter owns (`filters`, `whole_job`).
 pub fn run(job: &[u8], picture: &[u8], out: &mut [u8]) -> RunAnswer
     ensures { λ r. ⌜ Ran (now (job .entry)) (now (picture .entry)) (now (out .entry)) (now (out .exit)) r ⌝ }
 {

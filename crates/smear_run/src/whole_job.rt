@@ -2,7 +2,7 @@
 ghost use mathlib.Core.Path.{_≡_};
 ghost use Prim.Native.Nat.{_*_, _<_};
 ghost use lib.ListN.{length};
-ghost use Rattle.smear_run.specs.Stage.{wholeJobConfig, wholeJob, jobResult};
+ghost use Rattle.smear_run.specs.Stage.{recordJob, wholeJob, jobResult};
 ghost use Rattle.smear_run.specs.Parts.{Measured, Filtered};
 use crate::filters::FilterAnswer;
 use crate::filters::used;
@@ -12,8 +12,8 @@ use job::JobResult;
 use record::Record;
 use swings::Swing;
 
-// The job on a tight picture of at most 4,096 pixels; `none` stands where no swing is written. On the stack: 4,096 records, 65,536 bytes,
-// and 32,768 of `blur`'s counts.
+// The job on a tight picture of at most 4,096 pixels; `none` stands where no swing is written. On the stack: 4,096
+// records, 65,536 bytes, and 32,768 of `blur`'s counts.
 fn restore(
     picture: &[u8],
     width: usize,
@@ -23,7 +23,8 @@ fn restore(
     scratch: &mut [i32],
     none: Swing,
 ) -> JobAnswer
-    ensures { λ r. ⌜ Measured (now (picture .entry)) width height config (length (now (scratch .entry))) (now (dst .entry)) (now (dst .exit)) r ⌝ }
+    ensures { λ r. ⌜ Measured (now (picture .entry)) width height config (length (now (scratch .entry)))
+        (now (dst .entry)) (now (dst .exit)) r ⌝ }
 {
     let mut swings = [none; 4096];
     job::restore(
@@ -42,7 +43,7 @@ fn restore(
 }
 
 fn job_config(record: Record, relaxation: f64) -> JobConfig
-    ensures { λ r. ⌜ r ≡ wholeJobConfig «record» relaxation ⌝ }
+    ensures { λ r. ⌜ r ≡ recordJob «record» relaxation ⌝ }
 {
     let usual = JobConfig::default();
     let border = record.border;
@@ -77,7 +78,8 @@ pub(crate) fn whole_job(
     dst: &mut [u8],
 ) -> FilterAnswer
     requires { ⌜ length (now dst) ≡ «record» .width * «record» .height ⌝ }
-    ensures { λ r. ⌜ Filtered (wholeJob «record» relaxation (now (picture .entry))) «record» (now (dst .entry)) (now (dst .exit)) r ⌝ }
+    ensures { λ r. ⌜ Filtered (wholeJob «record» relaxation (now (picture .entry))) «record»
+        (now (dst .entry)) (now (dst .exit)) r ⌝ }
 {
     let mut scratch = [0i32; 12288];
     let none = Swing {

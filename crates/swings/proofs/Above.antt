@@ -16,22 +16,20 @@ use Rattle.swings.specs.declared.Swing.{Swing}
 use Rattle.swings.specs.declared.rises.Mark.{Mark}
 use Rattle.swings.specs.declared.rises.Mark.the-variants.{At, Unset}
 use Rattle.swings.specs.declared.rises.Rise.the-variants as rise
-use Rattle.swings.specs.Line.{firstLines, pixelOf}
-use Rattle.swings.specs.Rise.{double, swingOf, levelOf, crossedAt, placeAt, crossingOf, low-part, high-part, riseBetween, riseOf}
+use Rattle.swings.specs.Line.{firstLines, stepPixels}
+use Rattle.swings.specs.Rise.{double, swingOf, levelOf, crossedAt, placeAt, crossingOf, low-part, high-part}
+use Rattle.swings.specs.Rise.{riseBetween, riseOf}
 use Rattle.swings.specs.Swings.{scaledBy, swingsFrom}
-use Rattle.swings.specs.Each.{Each}
-use Rattle.swings.proofs.Small.{Small, Big}
-use Rattle.swings.proofs.Positive.{AboveZero, above-sub, above-mul}
-use Rattle.swings.proofs.EachSwing.{RiseIs, rise-cond, rise-map, picture-each}
+use Rattle.walks.specs.Each.{Each}
+use Rattle.numbers.proofs.Test.{cond-both}
+use Rattle.floats.proofs.Rounded.{Bounded, AtLeastOne}
+use Rattle.floats.proofs.AboveZero.{AboveZero, above-sub, above-mul}
+use Rattle.swings.proofs.EachSwing.{RiseIs, rise-map, picture-each}
 
 -- ---- rises
 abbrev MarkFits : Mark → Type 0
 MarkFits Unset = Unit {0}
 MarkFits (At p) = T (fits binary64 p)
-
-mark-cond : (t : Bool) (m n : Mark) → MarkFits m → MarkFits n → MarkFits (cond t m n)
-mark-cond true m n h k = h
-mark-cond false m n h k = k
 
 place-fits : (i : ℕ) (level v0 v1 : Float) → T (fits binary64 (placeAt i level v0 v1))
 unfolding placeAt
@@ -41,7 +39,8 @@ crossing-fits : (x : ℕ → ℕ) (rising : Bool) (level : Float) (i k : ℕ) �
 unfolding crossingOf
 crossing-fits x rising level i zero = tt
 crossing-fits x rising level i (suc k) =
-    mark-cond (crossedAt rising level (double x i) (double x (suc i))) (At (placeAt i level (double x i) (double x (suc i)))) (crossingOf x rising level (suc i) k)
+    cond-both MarkFits (crossedAt rising level (double x i) (double x (suc i)))
+    (At (placeAt i level (double x i) (double x (suc i)))) (crossingOf x rising level (suc i) k)
     (place-fits i level (double x i) (double x (suc i))) (crossing-fits x rising level (suc i) k)
 
 abbrev Wide : Swing → Type 0
@@ -53,22 +52,25 @@ between-above Unset high size h k = tt
 between-above (At p0) Unset size h k = tt
 between-above (At p0) (At p1) size h k = go (lt p0 p1) refl
   where
-    go : (t : Bool) → lt p0 p1 ≡ t → RiseIs Wide (cond t (rise.Found (record { width = sub binary64 p1 p0; swing = pos size })) rise.Nothing)
+    go : (t : Bool) → lt p0 p1 ≡ t
+        → RiseIs Wide (cond t (rise.Found (record { width = sub binary64 p1 p0; swing = pos size })) rise.Nothing)
     go true e = record { above = above-sub p1 p0 k h e; holds = sub-fits binary64 p1 p0 }
     go false e = tt
 
 rise-above : (least : ℕ) (x : ℕ → ℕ) (a b : ℕ) → RiseIs Wide (riseOf least x a b)
 unfolding riseOf
 rise-above least x a b =
-    rise-cond Wide (ltb (swingOf (x a) (x b)) least) rise.Nothing _ tt
-    (between-above (crossingOf x (ltb (x a) (x b)) (levelOf (x a) (x b) low-part) a (b - a)) (crossingOf x (ltb (x a) (x b)) (levelOf (x a) (x b) high-part) a (b - a)) (swingOf (x a) (x b))
-    (crossing-fits x (ltb (x a) (x b)) (levelOf (x a) (x b) low-part) a (b - a)) (crossing-fits x (ltb (x a) (x b)) (levelOf (x a) (x b) high-part) a (b - a)))
+    cond-both (RiseIs Wide) (ltb (swingOf (x a) (x b)) least) rise.Nothing _ tt
+    (between-above (crossingOf x (ltb (x a) (x b)) (levelOf (x a) (x b) low-part) a (b - a))
+    (crossingOf x (ltb (x a) (x b)) (levelOf (x a) (x b) high-part) a (b - a)) (swingOf (x a) (x b))
+    (crossing-fits x (ltb (x a) (x b)) (levelOf (x a) (x b) low-part) a (b - a))
+    (crossing-fits x (ltb (x a) (x b)) (levelOf (x a) (x b) high-part) a (b - a)))
 
 -- ---- the length of a direction's steps
 pub record Pixel (p : Float) : Type 0 where
   pub above : T (positive p)
-  pub big : Big p
-  pub small : Small 2 p
+  pub big : AtLeastOne p
+  pub small : Bounded 2 p
 
 pixel-one : Pixel (ofBits binary64 0x3FF0_0000_0000_0000)
 unfolding ofBits
@@ -78,7 +80,7 @@ pixel-diagonal : Pixel (ofBits binary64 0x3FF6_A09E_667F_3BCD)
 unfolding ofBits
 pixel-diagonal = record { above = tt; big = lit≤ tt; small = lit≤ tt }
 
-pub pixel-is : (d : RasterDirection4) → Pixel (pixelOf d)
+pub pixel-is : (d : RasterDirection4) → Pixel (stepPixels d)
 pixel-is Horizontal = pixel-one
 pixel-is DownRight = pixel-diagonal
 pixel-is Vertical = pixel-one
@@ -92,11 +94,16 @@ line-short Vertical w h k = omega arith
 line-short DownLeft w h k = omega arith
 
 pub picture-above : (least count : ℕ) (bytes : List ℕ) (d : RasterDirection4) (w h stride k a j : ℕ)
-    → Each (λ (s : Swing). AboveZero (s .width)) (swingsFrom least (pixelOf d) (firstLines count bytes d w h stride) k a j)
+    → Each (λ (s : Swing). AboveZero (s .width))
+    (swingsFrom least (stepPixels d) (firstLines count bytes d w h stride) k a j)
 picture-above least count bytes d w h stride =
-    picture-each least (pixelOf d) (max w h) Wide (λ (x : ℕ → ℕ). Unit {0})
+    picture-each least (stepPixels d) (max w h) Wide (λ (x : ℕ → ℕ). Unit {0})
     (λ x is a b _ _.
-    rise-map Wide (λ (s : Swing). Wide (scaledBy (pixelOf d) s))
-    (λ s e. record { above = above-mul (s .width) (pixelOf d) e (pixel-is d .above) (pixel-is d .big); holds = mul-fits binary64 (s .width) (pixelOf d) })
+    rise-map Wide (λ (s : Swing). Wide (scaledBy (stepPixels d) s))
+    (λ s e. record {
+      above = above-mul (s .width) (stepPixels d) e (pixel-is d .above) (pixel-is d .big);
+      holds =
+          mul-fits binary64 (s .width) (stepPixels d);
+    })
     (riseOf least x a b) (rise-above least x a b))
     (firstLines count bytes d w h stride) (λ k. tt) (λ k. omega (arith, line-short d w h k))

@@ -1,22 +1,20 @@
 -- The laws of `swings`, by subject.
 pub mod Above
 pub mod Count
-pub mod Each
 pub mod EachSwing
 pub mod Filling
 pub mod Levels
 pub mod Line
 pub mod LineSwings
+pub mod Monotonic
 pub mod Opened
-pub mod Positive
 pub mod Rise
 pub mod Runs
 pub mod RustRise
 pub mod SameSwings
 pub mod Scans
-pub mod Small
+pub mod Slopes
 pub mod Strongest
 pub mod SwingExamples
 pub mod Thinned
-pub mod Walk
 pub mod Width

@@ -48,7 +48,8 @@ larger-comm (negsuc a) (negsuc b) = larger-neg a b ∙ ap negsuc (swap a b) ∙ 
     swap m n = omega arith
 
 pub larger-assoc : (a b c : ℤ) → larger a (larger b c) ≡ larger (larger a b) c
-larger-assoc (pos a) (pos b) (pos c) = rw (larger-pos b c, larger-pos a b, larger-pos a (max b c), larger-pos (max a b) c) (ap pos (regroup a b c))
+larger-assoc (pos a) (pos b) (pos c) =
+    rw (larger-pos b c, larger-pos a b, larger-pos a (max b c), larger-pos (max a b) c) (ap pos (regroup a b c))
   where
     regroup : (m n k : ℕ) → max m (max n k) ≡ max (max m n) k
     regroup m n k = omega arith
@@ -58,7 +59,8 @@ larger-assoc (pos a) (negsuc b) (negsuc c) = rw (larger-neg b c) refl
 larger-assoc (negsuc a) (pos b) (pos c) = rw (larger-pos b c) refl
 larger-assoc (negsuc a) (pos b) (negsuc c) = refl
 larger-assoc (negsuc a) (negsuc b) (pos c) = rw (larger-neg a b) refl
-larger-assoc (negsuc a) (negsuc b) (negsuc c) = rw (larger-neg b c, larger-neg a b, larger-neg a (min b c), larger-neg (min a b) c) (ap negsuc (regroup a b c))
+larger-assoc (negsuc a) (negsuc b) (negsuc c) =
+    rw (larger-neg b c, larger-neg a b, larger-neg a (min b c), larger-neg (min a b) c) (ap negsuc (regroup a b c))
   where
     regroup : (m n k : ℕ) → min m (min n k) ≡ min (min m n) k
     regroup m n k = omega arith
@@ -66,4 +68,5 @@ larger-assoc (negsuc a) (negsuc b) (negsuc c) = rw (larger-neg b c, larger-neg a
 -- one swing more: the list so far has its strongest, and `stronger` takes in the next
 pub strongest-snoc : (l : List Swing) (s : Swing) → strongest (l ++ (s ∷ [])) ≡ larger (strongest l) (s .swing)
 strongest-snoc [] s = larger-comm (s .swing) (pos 0)
-strongest-snoc (t ∷ l) s = ap (larger (t .swing)) (strongest-snoc l s) ∙ larger-assoc (t .swing) (strongest l) (s .swing)
+strongest-snoc (t ∷ l) s = ap (larger (t .swing)) (strongest-snoc l s)
+    ∙ larger-assoc (t .swing) (strongest l) (s .swing)

@@ -1,4 +1,5 @@
--- Lines of document 01, Length: the ramp, the same one falling, and a plateau on the 80% level, whose first sample is the crossing.
+-- Lines of document 01, Length: the ramp, the same one falling, and a plateau on the 80% level, whose first sample is
+-- the crossing.
 use Prim.Native.Nat.{ℕ}
 use mathlib.Core.Path.{_≡_, refl}
 use mathlib.Core.List.{List, [], _∷_}

@@ -1,5 +1,4 @@
 -- What the contracts of `swings` cite.
-pub mod Each
 pub mod Line
 pub mod Rise
 pub mod Runs

@@ -1,4 +1,5 @@
--- The rise of a monotonic run of a line (document 01, Length; 001's `rise_of`), in lib.Ieee's operations on doubles: each rounds once.
+-- The rise of a monotonic run of a line (document 01, Length; 001's `rise_of`), in lib.Ieee's operations on doubles:
+-- each rounds once.
 use Prim.Native.Nat.{ℕ, zero, suc, _-_}
 use mathlib.Core.Bool.{Bool, cond, _&&_}
 use lib.Dec.{ltb}
@@ -36,13 +37,15 @@ unfoldable pub crossingOf : (ℕ → ℕ) → Bool → Float → ℕ → ℕ →
 crossingOf x rising level i zero = Unset
 crossingOf x rising level i (suc k) =
     let later = crossingOf x rising level (suc i) k in
-    cond (crossedAt rising level (double x i) (double x (suc i))) (At (placeAt i level (double x i) (double x (suc i)))) later
+    cond (crossedAt rising level (double x i) (double x (suc i)))
+    (At (placeAt i level (double x i) (double x (suc i)))) later
 
 -- the distance of the two crossings, if the second lies after the first
 unfoldable pub riseBetween : Mark → Mark → ℕ → Rise
 riseBetween Unset high swing = Nothing
 riseBetween (At p0) Unset swing = Nothing
-riseBetween (At p0) (At p1) swing = cond (lt p0 p1) (Found (record { width = sub binary64 p1 p0; swing = pos swing })) Nothing
+riseBetween (At p0) (At p1) swing =
+    cond (lt p0 p1) (Found (record { width = sub binary64 p1 p0; swing = pos swing })) Nothing
 
 -- the doubles 0.2 and 0.8
 abbrev pub low-part : Float

@@ -36,7 +36,8 @@ lineSwings least pixel x n a = swingsOf least pixel x (runsAfter x n a)
 unfoldable pub swingsFrom : ℕ → Float → Lines → ℕ → ℕ → ℕ → List Swing
 unfolding lineSwings
 swingsFrom least pixel lines k a zero = []
-swingsFrom least pixel lines k a (suc j) = lineSwings least pixel (lines .line k) (lines .len k) a ++ swingsFrom least pixel lines (suc k) 0 j
+swingsFrom least pixel lines k a (suc j) =
+    lineSwings least pixel (lines .line k) (lines .len k) a ++ swingsFrom least pixel lines (suc k) 0 j
 
 -- all swings of the lines
 abbrev pub swings : ℕ → Float → Lines → List Swing

@@ -4,7 +4,8 @@ ghost use mathlib.Core.Path.{_≡_};
 ghost use Prim.Native.Nat.{_+_, _-_, _*_, _≤_, _<_, _^_};
 ghost use lib.ListN.{length};
 ghost use lib.IntN.{pos, _-ℤ_};
-ghost use Rattle.swings.specs.Rise.{double, swingOf, crossedAt, placeAt, levelOf, crossingOf, riseOf, riseBetween};
+ghost use Rattle.swings.specs.Rise.{double, swingOf, crossedAt, placeAt, levelOf, crossingOf, riseOf};
+ghost use Rattle.swings.specs.Rise.{riseBetween};
 ghost use Rattle.swings.specs.Line.{sample};
 use crate::Swing;
 
@@ -65,7 +66,8 @@ fn crossed(rising: bool, level: f64, v0: f64, v1: f64) -> bool
     }
 }
 
-// Where between sample i, v0, and the next, v1, the level lies. The machine turns an i64 into a double in one step, a usize in five.
+// Where between sample i, v0, and the next, v1, the level lies. The machine turns an i64 into a double in one step, a
+// usize in five.
 fn place(i: usize, level: f64, v0: f64, v1: f64) -> f64
     requires { ⌜ i ≤ 2 ^ 53 ⌝ }
     ensures { λ r. ⌜ r ≡ placeAt i level v0 v1 ⌝ }

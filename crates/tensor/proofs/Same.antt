@@ -1,20 +1,32 @@
--- Two pictures with the same pixels have the same gradients, sums and answer.
+-- Two pictures with the same pixels have the same gradients, sums and decision.
 use mathlib.Core.List.{List}
 use mathlib.Core.Path.{_≡_, sym, _∙_, ap, ap₂}
 use Prim.Native.Nat.{ℕ, _+_, _-_, _<_}
 use native.Mathlib.Omega.{arith}
 use lib.IntN.{ℤ, pos, _-ℤ_, _*ℤ_}
 use lib.ListN.{length}
+use Rattle.image.specs.Call.{gray8, accepts}
 use Rattle.image.specs.Picture.{pixel, rowOf}
 use Rattle.image.specs.Refusal.{Laid}
 use Rattle.image.proofs.Picture.{row-length, row-pixel}
 use Rattle.image.proofs.Refusal.{accepted}
 use Rattle.numbers.proofs.Sum.{total-same}
-use Rattle.tensor.specs.declared.direction.DirectionAnswer.the-variants.{Direction}
 use Rattle.tensor.specs.declared.direction.RowSums.{RowSums}
 use Rattle.tensor.specs.declared.direction.TensorSums.{TensorSums}
-use Rattle.tensor.specs.Tensor.{estimateOf, smooth, gradientX, gradientY, rowSum, rowSums, interiorSum, tensorSums, threeRows, Rows, directionAnswer}
-use Rattle.tensor.proofs.Answer.{answer-taken}
+use Rattle.tensor.specs.Tensor.{
+  estimateOf,
+  smooth,
+  gradientX,
+  gradientY,
+  rowSum,
+  rowSums,
+  interiorSum,
+  tensorSums,
+  threeRows,
+  Rows,
+  directionDecision,
+}
+use Rattle.tensor.proofs.Answer.{direction-accepted}
 
 -- the rows y, y + 1, y + 2 of p are the rows z, z + 1, z + 2 of q
 pub record SameRows (p q : ℕ → ℕ → ℕ) (w y z : ℕ) : Type 0 where
@@ -44,10 +56,12 @@ module _ {p q : ℕ → ℕ → ℕ} {w y z : ℕ} (s : SameRows p q w y z) wher
       (smooth-same (s .above x k) (s .above (x + 1) m) (s .above (x + 2) h))
 
   rowSum-same :
-      (u v t r : ℕ → ℕ → ℤ) → ((x : ℕ) → x + 2 < w → u x y ≡ t x z) → ((x : ℕ) → x + 2 < w → v x y ≡ r x z) → rowSum u v w y ≡ rowSum t r w z
+      (u v t r : ℕ → ℕ → ℤ) → ((x : ℕ) → x + 2 < w → u x y ≡ t x z) → ((x : ℕ) → x + 2 < w → v x y ≡ r x z)
+      → rowSum u v w y ≡ rowSum t r w z
   unfolding rowSum
   rowSum-same u v t r e f =
-      total-same (λ x. u x y *ℤ v x y) (λ x. t x z *ℤ r x z) 0 (w - 2) (λ x _ h. ap₂ _*ℤ_ (e x (omega arith)) (f x (omega arith)))
+      total-same (λ x. u x y *ℤ v x y) (λ x. t x z *ℤ r x z) 0 (w - 2)
+      (λ x _ h. ap₂ _*ℤ_ (e x (omega arith)) (f x (omega arith)))
 
   pub rowSums-same : rowSums p w y ≡ rowSums q w z
   unfolding rowSums
@@ -57,7 +71,7 @@ module _ {p q : ℕ → ℕ → ℕ} {w y z : ℕ} (s : SameRows p q w y z) wher
       let ee = rowSum-same (gradientY p) (gradientY p) (gradientY q) (gradientY q) gradientY-same gradientY-same in
       cc
 
--- ---- the answer depends on the pixels alone: not on the stride, nor on bytes between the rows or behind the last
+-- ---- the decision depends on the pixels alone: not on the stride, nor on bytes between the rows or behind the last
 
 module _ {p q : ℕ → ℕ → ℕ} (w h : ℕ) (same : (c r : ℕ) → c < w → r < h → p c r ≡ q c r) where
   same-rows : (y : ℕ) → y < 0 + (h - 2) → SameRows p q w y y
@@ -71,22 +85,27 @@ module _ {p q : ℕ → ℕ → ℕ} (w h : ℕ) (same : (c r : ℕ) → c < w �
   pub tensorSums-same : tensorSums p w h ≡ tensorSums q w h
   unfolding tensorSums interiorSum rowSums
   tensorSums-same =
-      let ea = total-same (rowSum (gradientX p) (gradientX p) w) (rowSum (gradientX q) (gradientX q) w) 0 (h - 2) (λ y _ k. ap (λ (r : RowSums). r .a) (rowSums-same (same-rows y k))) in
-      let ec = total-same (rowSum (gradientX p) (gradientY p) w) (rowSum (gradientX q) (gradientY q) w) 0 (h - 2) (λ y _ k. ap (λ (r : RowSums). r .c) (rowSums-same (same-rows y k))) in
-      let ee = total-same (rowSum (gradientY p) (gradientY p) w) (rowSum (gradientY q) (gradientY q) w) 0 (h - 2) (λ y _ k. ap (λ (r : RowSums). r .e) (rowSums-same (same-rows y k))) in
+      let ea = total-same (rowSum (gradientX p) (gradientX p) w) (rowSum (gradientX q) (gradientX q) w) 0 (h - 2)
+      (λ y _ k. ap (λ (r : RowSums). r .a) (rowSums-same (same-rows y k))) in
+      let ec = total-same (rowSum (gradientX p) (gradientY p) w) (rowSum (gradientX q) (gradientY q) w) 0 (h - 2)
+      (λ y _ k. ap (λ (r : RowSums). r .c) (rowSums-same (same-rows y k))) in
+      let ee = total-same (rowSum (gradientY p) (gradientY p) w) (rowSum (gradientY q) (gradientY q) w) 0 (h - 2)
+      (λ y _ k. ap (λ (r : RowSums). r .e) (rowSums-same (same-rows y k))) in
       cc
 
-pub answer-same :
-    (xs ys : List ℕ) {w h s t : ℕ} → Laid (length xs) w h s → Laid (length ys) w h t → ((c r : ℕ) → c < w → r < h → pixel xs s c r ≡ pixel ys t c r) → directionAnswer xs w h s ≡ directionAnswer ys w h t
-answer-same xs ys {w} {h} {s} {t} l m same =
-    answer-taken xs w h s (accepted l)
-    ∙ ap (λ (sums : TensorSums). Direction (estimateOf w h sums)) (tensorSums-same w h same)
-    ∙ sym (answer-taken ys w h t (accepted m))
+pub decision-same : (xs ys : List ℕ) {w h s t : ℕ} → Laid (length xs) w h s → Laid (length ys) w h t
+    → ((c r : ℕ) → c < w → r < h → pixel xs s c r ≡ pixel ys t c r)
+    → directionDecision (gray8 xs w h s) ≡ directionDecision (gray8 ys w h t)
+decision-same xs ys {w} {h} {s} {t} l m same =
+    direction-accepted xs w h s (accepted l)
+    ∙ ap (λ (sums : TensorSums). accepts (estimateOf w h sums)) (tensorSums-same w h same)
+    ∙ sym (direction-accepted ys w h t (accepted m))
 
 -- ---- three rows of an accepted picture, taken out of it
 
 module _ (xs : List ℕ) {w h s : ℕ} (l : Laid (length xs) w h s) (y : ℕ) (below : y + 2 < h) where
-  pub taken-same : SameRows (threeRows (rowOf xs w h s y) (rowOf xs w h s (y + 1)) (rowOf xs w h s (y + 2))) (pixel xs s) w 0 y
+  pub taken-same : SameRows (threeRows (rowOf xs w h s y) (rowOf xs w h s (y + 1)) (rowOf xs w h s (y + 2)))
+      (pixel xs s) w 0 y
   taken-same =
       record {
         above = row-pixel xs w h s l y (omega arith);
@@ -94,7 +113,8 @@ module _ (xs : List ℕ) {w h s : ℕ} (l : Laid (length xs) w h s) (y : ℕ) (b
         below = row-pixel xs w h s l (y + 2) below;
       }
 
-  pub taken-sums : rowSums (threeRows (rowOf xs w h s y) (rowOf xs w h s (y + 1)) (rowOf xs w h s (y + 2))) (length (rowOf xs w h s (y + 1))) 0 ≡ rowSums (pixel xs s) w y
+  pub taken-sums : rowSums (threeRows (rowOf xs w h s y) (rowOf xs w h s (y + 1)) (rowOf xs w h s (y + 2)))
+      (length (rowOf xs w h s (y + 1))) 0 ≡ rowSums (pixel xs s) w y
   taken-sums = rw (row-length xs w h s l (y + 1) (omega arith)) (rowSums-same taken-same)
 
   pub taken-rows : Rows (rowOf xs w h s y) (rowOf xs w h s (y + 1)) (rowOf xs w h s (y + 2))

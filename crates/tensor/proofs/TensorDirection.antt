@@ -23,7 +23,8 @@ module _ (w h : ℕ) (A C E : ℤ) where
 
   module _ (pw : 3 ≤ w) (ph : 3 ≤ h) (ne : A +ℤ E ≡ pos 0 → ⊥) where
     some : (ltb w 3 || ltb h 3 || eqb (natAbs (A +ℤ E)) 0) ≡ false
-    some = or-false-intro (or-false-intro (le-ltb w 3 pw) (le-ltb h 3 ph)) (ne-eqb (natAbs (A +ℤ E)) 0 (λ e. ne (natAbs-zero (A +ℤ E) e)))
+    some = or-false-intro (or-false-intro (le-ltb w 3 pw) (le-ltb h 3 ph))
+        (ne-eqb (natAbs (A +ℤ E)) 0 (λ e. ne (natAbs-zero (A +ℤ E) e)))
 
     module _ (axis : 2 * natAbs C ≤ natAbs (A -ℤ E)) where
       pub direction-vertical : pos 0 ≤ℤ (A -ℤ E) → tensorDirection w h A C E ≡ Vertical

@@ -1,5 +1,5 @@
--- Document 01, "Direction from a picture": the Sobel gradients of the interior pixels, the sums A, C and E of their products, and the
--- direction. A picture is p c r, the pixel in column c and row r.
+-- Document 01, "Direction from a picture": the Sobel gradients of the interior pixels, the sums A, C and E of their
+-- products, and the direction. A picture is p c r, the pixel in column c and row r.
 use mathlib.Core.Bool.{cond, _||_}
 use mathlib.Core.List.{List}
 use mathlib.Core.Path.{_≡_}
@@ -8,6 +8,7 @@ use lib.Dec.{eqb, leb, ltb}
 use lib.IntN.{ℤ, pos, natAbs, _+ℤ_, _-ℤ_, _*ℤ_}
 use lib.ListN.{length, getD}
 use lib.Signed.{leZ, ltZ}
+use Rattle.image.specs.Call.{Gray8, Decision, accepts, refuses, decided}
 use Rattle.image.specs.Refusal.{layoutRefusal}
 use Rattle.image.specs.Picture.{pixel}
 use Rattle.numbers.specs.Sum.{total}
@@ -19,7 +20,8 @@ use Rattle.tensor.specs.declared.direction.DirectionEstimate.{DirectionE
 use Rattle.tensor.specs.declared.direction.DirectionAnswer.{DirectionAnswer}
 use Rattle.tensor.specs.declared.direction.DirectionAnswer.the-variants.{Direction, Refused}
 
--- ---- the gradients at the interior pixel (x + 1, y + 1): the column to the right minus that to the left, the row below minus that above
+-- ---- the gradients at the interior pixel (x + 1, y + 1): the column to the right minus that to the left, the row
+-- below minus that above
 
 -- weights 1 2 1
 abbrev pub smooth : ℕ → ℕ → ℕ → ℕ
@@ -27,11 +29,13 @@ smooth u v w = u + 2 * v + w
 
 unfoldable pub gradientX : (ℕ → ℕ → ℕ) → ℕ → ℕ → ℤ
 gradientX p x y =
-    pos (smooth (p (x + 2) y) (p (x + 2) (y + 1)) (p (x + 2) (y + 2))) -ℤ pos (smooth (p x y) (p x (y + 1)) (p x (y + 2)))
+    pos (smooth (p (x + 2) y) (p (x + 2) (y + 1)) (p (x + 2) (y + 2))) -ℤ pos
+    (smooth (p x y) (p x (y + 1)) (p x (y + 2)))
 
 unfoldable pub gradientY : (ℕ → ℕ → ℕ) → ℕ → ℕ → ℤ
 gradientY p x y =
-    pos (smooth (p x (y + 2)) (p (x + 1) (y + 2)) (p (x + 2) (y + 2))) -ℤ pos (smooth (p x y) (p (x + 1) y) (p (x + 2) y))
+    pos (smooth (p x (y + 2)) (p (x + 1) (y + 2)) (p (x + 2) (y + 2))) -ℤ pos
+    (smooth (p x y) (p (x + 1) y) (p (x + 2) y))
 
 -- ---- the sums: a row of width w has w − 2 interior pixels, a picture of height h has h − 2 such rows
 
@@ -54,8 +58,8 @@ tensorSums p w h =
 
 -- ---- the direction, D = A − E
 
--- A side below 3, or A + E = 0: Horizontal. If 2|C| ≤ |D|: Vertical for D ≥ 0, else Horizontal. Otherwise DownLeft for C > 0, DownRight
--- for C < 0.
+-- A side below 3, or A + E = 0: Horizontal. If 2|C| ≤ |D|: Vertical for D ≥ 0, else Horizontal. Otherwise DownLeft for
+-- C > 0, DownRight for C < 0.
 unfoldable pub tensorDirection : ℕ → ℕ → ℤ → ℤ → ℤ → RasterDirection4
 tensorDirection w h A C E =
     cond (ltb w 3 || ltb h 3 || eqb (natAbs (A +ℤ E)) 0) Horizontal
@@ -74,11 +78,14 @@ estimateOf w h s =
     }
 
 -- the estimate, or the layout's refusal
-unfoldable pub directionAnswer : List ℕ → ℕ → ℕ → ℕ → DirectionAnswer
-directionAnswer xs width height stride =
-    cond (eqb (layoutRefusal (length xs) width height stride) 0)
-    (Direction (estimateOf width height (tensorSums (pixel xs stride) width height)))
-    (Refused (layoutRefusal (length xs) width height stride))
+unfoldable pub directionDecision : Gray8 → Decision DirectionEstimate
+directionDecision src =
+    decided (layoutRefusal (length (src .bytes)) (src .width) (src .height) (src .stride))
+    (estimateOf (src .width) (src .height) (tensorSums (pixel (src .bytes) (src .stride)) (src .width) (src .height)))
+
+abbrev pub directionAnswer : Decision DirectionEstimate → DirectionAnswer
+directionAnswer (accepts estimate) = Direction estimate
+directionAnswer (refuses number) = Refused number
 
 -- ---- what the parts of the computation state
 

@@ -3,10 +3,12 @@ ghost use mathlib.Core.Path.{_≡_};
 ghost use Prim.Native.Nat.{_+_, _*_, _^_, _<_};
 ghost use lib.IntN.{pos, natAbs, _+ℤ_, _-ℤ_, _*ℤ_};
 ghost use lib.ListN.{length};
+ghost use Rattle.image.specs.Call.{gray8};
 ghost use Rattle.image.specs.Picture.{pixel};
 ghost use Rattle.image.specs.Refusal.{Laid};
 ghost use mathlib.Core.List.{[]};
-ghost use Rattle.tensor.specs.Tensor.{smooth, gradientX, gradientY, Gradient, threeRows, Rows, rowSums, Small, tensorSums, tensorDirection, directionAnswer};
+ghost use Rattle.tensor.specs.Tensor.{smooth, gradientX, gradientY, Gradient, threeRows, Rows, rowSums, Small};
+ghost use Rattle.tensor.specs.Tensor.{tensorSums, tensorDirection, directionDecision, directionAnswer};
 use image::layout_refusal;
 use image::row_of;
 use numbers::abs_i64;
@@ -54,7 +56,8 @@ fn gradient(u: u8, v: u8, w: u8, u2: u8, v2: u8, w2: u8) -> i16
 
 fn gradient_x(above: &[u8], here: &[u8], below: &[u8], x: usize) -> i16
     requires { ⌜ (x + 2 < length (now above)) × (x + 2 < length (now here)) × (x + 2 < length (now below)) ⌝ }
-    ensures { λ r. ⌜ Gradient (gradientX (threeRows (now (above .entry)) (now (here .entry)) (now (below .entry))) x 0) r ⌝ }
+    ensures { λ r. ⌜ Gradient (gradientX (threeRows (now (above .entry)) (now (here .entry)) (now (below .entry))) x 0)
+        r ⌝ }
 {
     let right = x + 2;
     gradient(
@@ -67,8 +70,8 @@ fn gradient_x(above: &[u8], here: &[u8], below: &[u8], x: usize) -> i16
     )
 }
 
-// No pixel of the row between is read. The middle column has slices of its own: the compiler then carries no load from one turn of
-// the caller's loop to the next, and that loop becomes vector code.
+// No pixel of the row between is read. The middle column has slices of its own: the compiler then carries no load from
+// one turn of the caller's loop to the next, and that loop becomes vector code.
 fn gradient_y(above: &[u8], below: &[u8], x: usize) -> i16
     requires { ⌜ (x + 2 < length (now above)) × (x + 2 < length (now below)) ⌝ }
     ensures { λ r. ⌜ Gradient (gradientY (threeRows (now (above .entry)) [] (now (below .entry))) x 0) r ⌝ }
@@ -96,7 +99,8 @@ fn add_product(sum: i32, u: i16, v: i16) -> i32
 // The sums of the row here, between two others.
 fn row_sums(above: &[u8], here: &[u8], below: &[u8]) -> RowSums
     requires { ⌜ Rows (now above) (now here) (now below) ⌝ }
-    ensures { λ r. ⌜ r ≡ rowSums (threeRows (now (above .entry)) (now (here .entry)) (now (below .entry))) (length (now (here .entry))) 0 ⌝ }
+    ensures { λ r. ⌜ r ≡ rowSums (threeRows (now (above .entry)) (now (here .entry)) (now (below .entry)))
+        (length (now (here .entry))) 0 ⌝ }
 {
     let n = here.len();
     let mut a: i32 = 0;
@@ -169,7 +173,7 @@ pub fn estimate_line_direction(
     height: usize,
     stride: usize,
 ) -> DirectionAnswer
-    ensures { λ r. ⌜ r ≡ directionAnswer (now («data» .entry)) width height stride ⌝ }
+    ensures { λ r. ⌜ r ≡ directionAnswer (directionDecision (gray8 (now («data» .entry)) width height stride)) ⌝ }
 {
     let refusal = layout_refusal(data.len(), width, height, stride);
     if refusal != 0 {

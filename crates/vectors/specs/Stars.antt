@@ -1,5 +1,6 @@
--- Document 01's cases that are marked ★: all of them, in the document's order, are one list, and one theorem says that each has the value beside it. What a case has is
--- told by the definitions that the calls' contracts cite, and the two are compared by `≡` alone: no test of our own stands between.
+-- Document 01's cases that are marked ★: all of them, in the document's order, are one list, and one theorem says that
+-- each has the value beside it. What a case has is told by the definitions that the calls' contracts cite, and the two
+-- are compared by `≡` alone: no test of our own stands between.
 use Prim.Native.Nat.{ℕ, zero, suc}
 use mathlib.Core.List.{List, [], _∷_, _++_, map}
 use mathlib.Core.Path.{_≡_, refl}
@@ -11,6 +12,7 @@ use Rattle.numbers.specs.Sum.{total, count}
 use Rattle.floats.specs.Factor.{quantized}
 use Rattle.floats.specs.declared.Quantized.{Quantized}
 use Rattle.floats.specs.declared.Quantized.the-variants.{Q16}
+use Rattle.image.specs.Call.{gray8}
 use Rattle.image.specs.Picture.{pixel}
 use Rattle.image.specs.Refusal.{layoutRefusal, pairRefusal}
 use Rattle.raster.specs.Border.{borderMap}
@@ -22,8 +24,9 @@ use Rattle.raster.specs.declared.border.BorderSample.{BorderSample}
 use Rattle.raster.specs.declared.border.BorderSample.the-variants.{Inside}
 use Rattle.raster.specs.declared.direction.RasterDirection4.{RasterDirection4}
 use Rattle.raster.specs.declared.direction.RasterDirection4.the-variants.{Horizontal, DownRight}
-use Rattle.line.specs.Line.{sample, window, mean, stepped, after}
-use Rattle.blur.specs.Length.{lengthAnswer}
+use Rattle.line.specs.Iteration as iteration
+use Rattle.line.specs.Line.{sample, window, mean}
+use Rattle.blur.specs.Length.{lengthDecision, lengthAnswer}
 use Rattle.swings.specs.Rise.{levelOf, crossedAt, placeAt, crossingOf, riseBetween}
 use Rattle.swings.specs.Swings.{swingsFrom}
 use Rattle.tensor.specs.Tensor.{gradientX, gradientY, rowSum, interiorSum, tensorSums, tensorDirection, estimateOf}
@@ -33,11 +36,10 @@ use Rattle.blur.specs.declared.length.LineLength.the-variants.{Found, Nothing}
 use Rattle.deblur.specs.Calls as calls
 use Rattle.deblur.specs.Picture.{estimate, estimateOn}
 use Rattle.deblur.specs.Refusal as deblur
-use Rattle.deblur.specs.Settings.{restorationOf, unsharpOf}
-use Rattle.deblur.specs.declared.LineSettings.{LineSettings}
+use Rattle.deblur.specs.Settings.{LineFilter, restorationOf, unsharpOf}
 use Rattle.sharpen.specs.Binomial.{tapPlace, binomialSum, sharper, unsharp}
 use Rattle.sharpen.specs.Call.{binomialRefusal}
-use Rattle.job.specs.Job.{jobOf, settingsRefusal, jobRefusal, pictureDirection, plan}
+use Rattle.job.specs.Job.{layout, jobOf, jobRefusal, pictureDirection, plan, jobAnswer}
 use Rattle.job.specs.declared.JobAnswer.{JobAnswer}
 use Rattle.job.specs.declared.JobAnswer.the-variants.{Refused}
 
@@ -92,14 +94,17 @@ written zero f = pixels (map (λ c. f c 0) (0 ∷ 1 ∷ 2 ∷ 3 ∷ 4 ∷ []))
 written (suc number) f = refused (suc number)
 
 -- the row through a line filter, with the scratch that is asked
-filtered : LineSettings → Answer
+filtered : LineFilter → Answer
 unfolding row written
-filtered s = written (deblur.filterRefusal 5 5 1 5 5 5 1 5 s 15) (λ c r. clampByte (calls.estimateOf row 5 1 5 s c r))
+filtered f =
+    written (deblur.filterRefusal 5 5 1 5 5 5 1 5 (f .refusal 5 1) 15)
+    (λ c r. clampByte (calls.lastEstimate (gray8 row 5 1 5) (f .kernel) (f .direction) c r))
 
 value : Question → Answer
 unfolding three-ramps row written filtered
 value (direction-of angle) = direction (fromAngle (ofBits binary64 angle))
-value (length-of-ramps minimum) = measured (lengthAnswer three-ramps 10 3 10 Horizontal minimum 24 30)
+value (length-of-ramps minimum) =
+    measured (lengthAnswer (lengthDecision (gray8 three-ramps 10 3 10) Horizontal minimum 24 30))
 value (sample-at border n p) = source (borderMap border n p)
 value (mean-of line L p) = level (mean (borderMap Replicate (length line)) (λ i. getD line i (pos 0)) L p)
 value (q-of relaxation) = factor (quantized 1 (ofBits binary64 relaxation))
@@ -124,8 +129,8 @@ value (row-sharpened gain) =
     }))
 value (job-on-ramps minimum) =
     planned
-    (plan
-    (jobOf three-ramps 10 3 10 30 10 3 10
+    (jobAnswer (plan
+    (jobOf (gray8 three-ramps 10 3 10) (layout 30 10 3 10)
     (record {
       «minimum_transitions» = minimum;
       «minimum_amplitude» = 24;
@@ -133,7 +138,7 @@ value (job-on-ramps minimum) =
       relaxation = ofBits binary64 0x3ff0_0000_0000_0000;
       border = Replicate;
     })
-    90 30))
+    90 30)))
 value row-binomial = written (binomialRefusal 5 5 1 5 5 5 1 5 5) (unsharp (pixel row 5) 5 1)
 
 -- ---- the list
@@ -176,5 +181,10 @@ cases =
 -- ---- the theorem
 
 stars : map (λ c. value (c .asked)) cases ≡ map (λ c. c .must-be) cases
-unfolding cases value ofBits ofInt add sub mul div rem le lt eq fromAngle lengthAnswer layoutRefusal pairRefusal startCol startRow lineOf swingsFrom levelOf crossedAt placeAt crossingOf riseBetween borderMap mean window sample total quantized calls.estimateOf deblur.filterRefusal deblur.settingsRefusal estimate estimateOn after stepped plan jobRefusal settingsRefusal pictureDirection estimateOf tensorSums tensorDirection interiorSum rowSum gradientX gradientY binomialRefusal sharper binomialSum tapPlace count
+unfolding cases value ofBits ofInt add sub mul div rem le lt eq fromAngle lengthDecision layoutRefusal pairRefusal
+    startCol startRow lineOf swingsFrom levelOf crossedAt placeAt crossingOf riseBetween borderMap iteration.mean window
+    sample total quantized deblur.filterRefusal deblur.blurLengthRefusal deblur.angleRefusal deblur.factorRefusal
+    deblur.iterationsRefusal estimate estimateOn iteration.after iteration.stepped plan jobRefusal pictureDirection
+    estimateOf tensorSums tensorDirection interiorSum rowSum gradientX gradientY binomialRefusal sharper
+    binomialSum tapPlace count
 stars = refl

@@ -71,15 +71,6 @@ fn restoration_outcome(answer: RestorationAnswer) -> Outcome {
     }
 }
 
-fn border_of(c: Case) -> LineBorderMode {
-    let border = c.border;
-    match border {
-        0 => LineBorderMode::Replicate,
-        1 => LineBorderMode::Reflect,
-        _ => LineBorderMode::Constant(c.value),
-    }
-}
-
 fn restore(c: Case, source: &[u8], destination: &mut [u8]) -> Outcome {
     let mut scratch = [0i32; 768];
     let config = VanCittertConfig {
@@ -87,7 +78,7 @@ fn restore(c: Case, source: &[u8], destination: &mut [u8]) -> Outcome {
         blur_length: c.blur_length,
         iterations: c.count,
         relaxation: c.factor,
-        border: border_of(c),
+        border: LineBorderMode::from_code(c.border, c.value),
     };
     restoration_outcome(van_cittert_line_into(
         source,
@@ -109,7 +100,7 @@ fn unsharp(c: Case, source: &[u8], destination: &mut [u8]) -> Outcome {
         theta_radians: c.angle,
         blur_length: c.blur_length,
         gain: c.factor,
-        border: border_of(c),
+        border: LineBorderMode::from_code(c.border, c.value),
     };
     restoration_outcome(directional_unsharp_line_into(
         source,

@@ -1,4 +1,5 @@
-// A case of the list: 50 bytes of numbers, little-endian, then the source's bytes, then the destination's as the Rust leaves it.
+// A case of the list: 50 bytes of numbers, little-endian, then the source's bytes, then the destination's as the Rust
+// leaves it.
 //
 //    0  the call: 0 from_angle, 1 direction, 2 length, 3 restoration, 4 line unsharp, 5 binomial
 //    1  the number of the refusal, 0 where the call is accepted; 7 for 8 too, since the Rust has one error for both

@@ -1,12 +1,14 @@
 // The length call with records of its own.
 ghost use mathlib.Core.Path.{_≡_};
 ghost use Rattle.raster.specs.Direction.{fromAngle};
-ghost use Rattle.blur.specs.Length.{lengthAnswer};
+ghost use Rattle.image.specs.Call.{gray8};
+ghost use Rattle.blur.specs.Length.{lengthDecision, lengthAnswer};
 use blur::length::LengthAnswer;
 use blur::length::estimate_at;
 use swings::Swing;
 
-// The length of a picture of at most 256 pixels. Its contract says nothing of the records, so whoever calls it needs no walk.
+// The length of a picture of at most 256 pixels. Its contract says nothing of the records, so whoever calls it needs no
+// walk.
 pub(crate) fn length_at(
     data: &[u8],
     width: usize,
@@ -16,7 +18,9 @@ pub(crate) fn length_at(
     minimum_transitions: usize,
     minimum_amplitude: u8,
 ) -> LengthAnswer
-    ensures { λ r. ⌜ r ≡ lengthAnswer (now («data» .entry)) width height stride (fromAngle «theta_radians») «minimum_transitions» «minimum_amplitude» 256 ⌝ }
+    ensures { λ r. ⌜ r ≡ lengthAnswer
+        (lengthDecision (gray8 (now («data» .entry)) width height stride) (fromAngle «theta_radians»)
+        «minimum_transitions» «minimum_amplitude» 256) ⌝ }
 {
     let mut swings = [Swing {
         width: 0.0,

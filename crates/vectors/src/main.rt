@@ -1,5 +1,5 @@
-// Replays the Rust's answers: each case of the file `rust.vec` through the stage's own calls. `oracle/vectors` makes the file from the Rust
-// original. Prints each case that fails, and last how many passed and failed.
+// Replays the Rust's answers: each case of the file `rust.vec` through the stage's own calls. `oracle/vectors` makes
+// the file from the Rust original. Prints each case that fails, and last how many passed and failed.
 ghost use Prim.Native.Nat.{_≤_};
 use crate::calls::agrees;
 use crate::calls::call;

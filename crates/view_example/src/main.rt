@@ -1,5 +1,6 @@
-// The binomial unsharp through views, on a picture of 5 by 3 pixels that lies inside a text of 5 lines of 8 bytes. The pixels are
-// letters, so the text can be printed; all that lies around the picture, the line feeds among it, stays.
+// The binomial unsharp through views, on a picture of 5 by 3 pixels that lies inside a text of 5 lines of 8 bytes. The
+// pixels are letters, so the text can be printed; all that lies around the picture, the line feeds among it, stays.
+ghost use Rattle.image.specs.Call.{gray8};
 ghost use Rattle.sharpen.specs.Call.{Sharpened};
 use image::Gray8View;
 use image::Gray8ViewMut;
@@ -15,8 +16,9 @@ fn sharpen_in_views(
     stride: usize,
     scratch: &mut [u16],
 ) -> SharpenAnswer
-    ensures { λ r. ⌜ Sharpened (now (src .entry)) width height stride (now (dst .entry)) width height stride
-        (now (scratch .entry)) (now (dst .exit)) (now (scratch .exit)) r ⌝ }
+    ensures { λ r. ⌜ Sharpened (gray8 (now (src .entry)) width height stride)
+        (gray8 (now (dst .entry)) width height stride)
+        (now (dst .exit)) (now (scratch .entry)) (now (scratch .exit)) r ⌝ }
 {
     let from = Gray8View::new(src, width, height, stride);
     let to = Gray8ViewMut::new(dst, width, height, stride);

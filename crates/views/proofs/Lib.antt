@@ -1,3 +1,1 @@
--- The laws of `views`.
-pub mod FilterShape
-pub mod LineFilter
+-- Nothing of its own: each function is an instance of `walks/proofs/Forward`.

@@ -1,13 +1,14 @@
-// Each call of the stage over views, for callers who hold pictures as views. A call's contract is the core's own, at the views' fields.
+// Each call of the stage over views, for callers who hold pictures as views. A call's contract is the core's own, at
+// the views' fields.
 ghost use mathlib.Core.Path.{_≡_};
-ghost use Rattle.blur.specs.Length.{Estimated as Measured, defaults};
-ghost use Rattle.tensor.specs.Tensor.{directionAnswer};
-ghost use Rattle.deblur.specs.Calls.{Filtered, Estimated};
+ghost use Rattle.blur.specs.Length.{LengthMeasured, defaults};
+ghost use Rattle.tensor.specs.Tensor.{directionAnswer, directionDecision};
+ghost use Rattle.deblur.specs.Calls.{Filtered, EstimateWritten};
 ghost use Rattle.deblur.specs.Settings.{restorationOf, unsharpOf};
 ghost use Rattle.job.specs.Job.{Restored};
 ghost use Rattle.raster.specs.Direction.{fromAngle};
 ghost use Rattle.sharpen.specs.Call.{Sharpened};
-ghost use Rattle.views.specs.Pictures.{into, over};
+ghost use Rattle.views.specs.Pictures.{lent, seen};
 use blur::length::LengthAnswer;
 use blur::length::LineLengthConfig;
 use deblur::DirectionalUnsharpConfig;
@@ -22,7 +23,7 @@ use swings::Swing;
 use tensor::direction::DirectionAnswer;
 
 pub fn estimate_line_direction<'a>(src: Gray8View<'a>) -> DirectionAnswer
-    ensures { λ r. ⌜ r ≡ over directionAnswer (src .entry) ⌝ }
+    ensures { λ r. ⌜ r ≡ directionAnswer (directionDecision (seen (src .entry))) ⌝ }
 {
     tensor::direction::estimate_line_direction(src.data, src.width, src.height, src.stride)
 }
@@ -33,7 +34,8 @@ pub fn estimate_line_length_with<'a>(
     config: LineLengthConfig,
     swings: &mut [Swing],
 ) -> LengthAnswer
-    ensures { λ r. ⌜ over Measured (src .entry) (fromAngle «theta_radians») (config .«minimum_transitions») (config .«minimum_amplitude»)
+    ensures { λ r. ⌜ LengthMeasured (seen (src .entry)) (fromAngle «theta_radians») (config .«minimum_transitions»)
+        (config .«minimum_amplitude»)
         (now (swings .entry)) (now (swings .exit)) r ⌝ }
 {
     blur::length::estimate_line_length_with(
@@ -52,7 +54,8 @@ pub fn estimate_line_length<'a>(
     theta_radians: f64,
     swings: &mut [Swing],
 ) -> LengthAnswer
-    ensures { λ r. ⌜ over Measured (src .entry) (fromAngle «theta_radians») (defaults .«minimum_transitions») (defaults .«minimum_amplitude»)
+    ensures { λ r. ⌜ LengthMeasured (seen (src .entry)) (fromAngle «theta_radians») (defaults .«minimum_transitions»)
+        (defaults .«minimum_amplitude»)
         (now (swings .entry)) (now (swings .exit)) r ⌝ }
 {
     blur::length::estimate_line_length(
@@ -71,8 +74,8 @@ pub fn van_cittert_line_into<'a, 'b>(
     config: VanCittertConfig,
     scratch: &mut [i32],
 ) -> RestorationAnswer
-    ensures { λ r. ⌜ into (over Filtered (src .entry)) (dst .entry) (now (dst .exit .0))
-        (restorationOf config) (now (scratch .entry)) (now (scratch .exit)) r ⌝ }
+    ensures { λ r. ⌜ Filtered (seen (src .entry)) (lent (dst .entry)) (now (dst .exit .0)) (restorationOf config)
+        (now (scratch .entry)) (now (scratch .exit)) r ⌝ }
 {
     deblur::van_cittert_line_into(
         src.data,
@@ -94,8 +97,8 @@ pub fn van_cittert_estimate_into<'a>(
     config: VanCittertConfig,
     scratch: &mut [i32],
 ) -> RestorationAnswer
-    ensures { λ r. ⌜ over Estimated (src .entry)
-        (now (dst .entry)) (now (dst .exit)) (restorationOf config) (now (scratch .entry)) (now (scratch .exit)) r ⌝ }
+    ensures { λ r. ⌜ EstimateWritten (seen (src .entry)) (now (dst .entry)) (now (dst .exit)) (restorationOf config)
+        (now (scratch .entry)) (now (scratch .exit)) r ⌝ }
 {
     deblur::van_cittert_estimate_into(
         src.data,
@@ -114,8 +117,8 @@ pub fn directional_unsharp_line_into<'a, 'b>(
     config: DirectionalUnsharpConfig,
     scratch: &mut [i32],
 ) -> RestorationAnswer
-    ensures { λ r. ⌜ into (over Filtered (src .entry)) (dst .entry) (now (dst .exit .0))
-        (unsharpOf config) (now (scratch .entry)) (now (scratch .exit)) r ⌝ }
+    ensures { λ r. ⌜ Filtered (seen (src .entry)) (lent (dst .entry)) (now (dst .exit .0)) (unsharpOf config)
+        (now (scratch .entry)) (now (scratch .exit)) r ⌝ }
 {
     deblur::directional_unsharp_line_into(
         src.data,
@@ -136,8 +139,8 @@ pub fn fixed_binomial_unsharp_into<'a, 'b>(
     dst: Gray8ViewMut<'b>,
     scratch: &mut [u16],
 ) -> SharpenAnswer
-    ensures { λ r. ⌜ into (λ before after w h s. over Sharpened (src .entry) before w h s (now (scratch .entry)) after (now (scratch .exit)) r)
-        (dst .entry) (now (dst .exit .0)) ⌝ }
+    ensures { λ r. ⌜ Sharpened (seen (src .entry)) (lent (dst .entry)) (now (dst .exit .0)) (now (scratch .entry))
+        (now (scratch .exit)) r ⌝ }
 {
     sharpen::fixed_binomial_unsharp_into(
         src.data,
@@ -159,7 +162,7 @@ pub fn restore<'a, 'b>(
     scratch: &mut [i32],
     swings: &mut [Swing],
 ) -> JobAnswer
-    ensures { λ r. ⌜ into (over Restored (src .entry)) (dst .entry) (now (dst .exit .0)) config
+    ensures { λ r. ⌜ Restored (seen (src .entry)) (lent (dst .entry)) (now (dst .exit .0)) config
         (now (scratch .entry)) (now (scratch .exit)) (now (swings .entry)) (now (swings .exit)) r ⌝ }
 {
     job::restore(

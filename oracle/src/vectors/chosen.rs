@@ -26,7 +26,9 @@ fn padded(random: &mut Random, p: &Picture, between: usize) -> Picture {
     let stride = p.width + between;
     let noise: Vec<u8> = (0..stride * p.height + 2).map(|_| random.below(256) as u8).collect();
     let pixel = |i: usize| p.data[i / stride * p.stride + i % stride];
-    let data = (0..noise.len()).map(|i| if i / stride < p.height && i % stride < p.width { pixel(i) } else { noise[i] }).collect();
+    let data = (0..noise.len())
+        .map(|i| if i / stride < p.height && i % stride < p.width { pixel(i) } else { noise[i] })
+        .collect();
     Picture { data, stride, ..*p }
 }
 
@@ -41,8 +43,8 @@ fn refused_layouts(p: &Picture) -> [Picture; 4] {
     ]
 }
 
-/// Lines of every shape: ramps both ways, plateaus at their ends and on either level, crossings on a sample, between two and in the first or last
-/// step, weak swings beside strong ones.
+/// Lines of every shape: ramps both ways, plateaus at their ends and on either level, crossings on a sample, between
+/// two and in the first or last step, weak swings beside strong ones.
 const LINES: [&[u8]; 23] = [
     &[0, 0, 0, 50, 100, 150, 200, 250, 250, 250],
     &[250, 250, 250, 200, 150, 100, 50, 0, 0, 0],
@@ -90,10 +92,14 @@ fn either(random: &mut Random, turn: usize, width: usize, height: usize) -> Pict
 }
 
 /// Thin, small and square sizes.
-const SIZES: [(usize, usize); 12] = [(1, 1), (1, 6), (6, 1), (2, 2), (3, 3), (5, 3), (3, 5), (4, 7), (7, 4), (8, 8), (2, 5), (5, 2)];
+const SIZES: [(usize, usize); 12] =
+    [(1, 1), (1, 6), (6, 1), (2, 2), (3, 3), (5, 3), (3, 5), (4, 7), (7, 4), (8, 8), (2, 5), (5, 2)];
 
 fn from_angle() -> Vec<Case> {
-    let mut angles = vec![0.39, 0.40, -1.0, 3.0, f64::NAN, 0.0, -0.0, f64::INFINITY, f64::NEG_INFINITY, f64::MAX, f64::MIN_POSITIVE, f64::from_bits(1), -1e-300];
+    let mut angles = vec![
+        0.39, 0.40, -1.0, 3.0, f64::NAN, 0.0, -0.0, f64::INFINITY, f64::NEG_INFINITY,
+        f64::MAX, f64::MIN_POSITIVE, f64::from_bits(1), -1e-300,
+    ];
     // the boundaries of the snap, and a step to either side
     for k in [-15, -9, -7, -5, -3, -1, 1, 3, 5, 7, 8, 9, 15] {
         let bits = (f64::from(k) * std::f64::consts::PI / 8.0).to_bits();
@@ -105,7 +111,17 @@ fn from_angle() -> Vec<Case> {
 
 fn direction(random: &mut Random) -> Vec<Case> {
     let mut pictures: Vec<_> = (0..4).map(|d| lines_of(d, LINES[0])).collect();
-    pictures.extend([[0, 0, 9, 0, 0, 9, 0, 0, 9], [0, 0, 0, 0, 0, 0, 9, 9, 9], [0, 0, 0, 0, 0, 9, 0, 9, 9], [0, 0, 0, 9, 0, 0, 9, 9, 0], [0, 0, 1, 0, 0, 1, 0, 0, 1], [7; 9]].map(|p| tight(3, &p)));
+    pictures.extend(
+        [
+            [0, 0, 9, 0, 0, 9, 0, 0, 9],
+            [0, 0, 0, 0, 0, 0, 9, 9, 9],
+            [0, 0, 0, 0, 0, 9, 0, 9, 9],
+            [0, 0, 0, 9, 0, 0, 9, 9, 0],
+            [0, 0, 1, 0, 0, 1, 0, 0, 1],
+            [7; 9],
+        ]
+        .map(|p| tight(3, &p)),
+    );
     pictures.extend(SIZES.map(|(width, height)| noise(random, width, height)));
     pictures.extend(SIZES.map(|(width, height)| stepped(random, width, height)));
     let few: Vec<_> = pictures.iter().step_by(3).map(|p| padded(random, p, 2)).collect();
@@ -116,7 +132,9 @@ fn direction(random: &mut Random) -> Vec<Case> {
 
 fn length(random: &mut Random) -> Vec<Case> {
     let mut out = Vec::new();
-    let mut add = |source: Picture, angle, count, amplitude| out.push(Case { angle, count, amplitude, ..Case::new(Call::Length, source) });
+    let mut add = |source: Picture, angle, count, amplitude| {
+        out.push(Case { angle, count, amplitude, ..Case::new(Call::Length, source) })
+    };
     add(lines_of(0, LINES[0]), 0.0, 3, 24);
     add(lines_of(0, LINES[0]), 0.0, 4, 24);
     for line in LINES {
@@ -134,10 +152,21 @@ fn length(random: &mut Random) -> Vec<Case> {
         add(lines_of(d, line), ALONG[d], 1 + k % 2, 1);
     }
     // no threshold, the least swing reached and missed, more swings than there are, an angle that is none
-    for (angle, count, amplitude) in [(0.0, 0, 24), (0.0, 1, 0), (0.0, 1, 250), (0.0, 1, 251), (0.0, 65_535, 1), (f64::NAN, 1, 24), (f64::INFINITY, 1, 24), (-1.6, 1, 24)] {
+    for (angle, count, amplitude) in [
+        (0.0, 0, 24),
+        (0.0, 1, 0),
+        (0.0, 1, 250),
+        (0.0, 1, 251),
+        (0.0, 65_535, 1),
+        (f64::NAN, 1, 24),
+        (f64::INFINITY, 1, 24),
+        (-1.6, 1, 24),
+    ] {
         add(lines_of(0, LINES[0]), angle, count, amplitude);
     }
-    for (k, (width, height)) in SIZES.into_iter().chain([(12, 9), (9, 12), (16, 8), (11, 11), (9, 9), (10, 7), (7, 10), (6, 6)]).enumerate() {
+    for (k, (width, height)) in
+        SIZES.into_iter().chain([(12, 9), (9, 12), (16, 8), (11, 11), (9, 9), (10, 7), (7, 10), (6, 6)]).enumerate()
+    {
         let (p, s) = (noise(random, width, height), stepped(random, width, height));
         add(padded(random, &p, k % 3), ALONG[k % 4], 1 + k % 4, 24);
         add(s.clone(), ALONG[(k + 1) % 4], 1, 1);
@@ -153,7 +182,11 @@ fn length(random: &mut Random) -> Vec<Case> {
 fn refused_destinations(case: &Case) -> Vec<Case> {
     let (w, h) = (case.source.width, case.source.height);
     let other = |width: usize, height: usize| Picture { data: vec![OLD; width * height], width, height, stride: width };
-    refused_layouts(&other(w, h)).into_iter().chain([other(w + 1, h), other(w, h - 1)]).map(|destination| Case { destination, ..case.clone() }).collect()
+    refused_layouts(&other(w, h))
+        .into_iter()
+        .chain([other(w + 1, h), other(w, h - 1)])
+        .map(|destination| Case { destination, ..case.clone() })
+        .collect()
 }
 
 /// A destination with other bytes between its rows than the source.
@@ -165,7 +198,12 @@ fn apart(case: Case, between: usize) -> Case {
 /// What both line filters have: `limit` is the largest factor.
 fn line_filter(random: &mut Random, call: Call, limit: f64) -> Vec<Case> {
     let mut out = Vec::new();
-    let borders = [LineBorderMode::Replicate, LineBorderMode::Reflect, LineBorderMode::Constant(0), LineBorderMode::Constant(200)];
+    let borders = [
+        LineBorderMode::Replicate,
+        LineBorderMode::Reflect,
+        LineBorderMode::Constant(0),
+        LineBorderMode::Constant(200),
+    ];
     let factors = [limit, 0.5, 0.1, 1.0];
     for (k, angle) in ALONG.into_iter().enumerate() {
         for (j, border) in borders.into_iter().enumerate() {
@@ -181,14 +219,18 @@ fn line_filter(random: &mut Random, call: Call, limit: f64) -> Vec<Case> {
     for (k, (width, height)) in SIZES.into_iter().enumerate() {
         let plain = either(random, k, width, height);
         let source = padded(random, &plain, k % 4);
-        let base = Case { angle: ALONG[k % 4], border: borders[k % 3], count: 2, factor: limit, ..Case::new(call, source) };
+        let base =
+            Case { angle: ALONG[k % 4], border: borders[k % 3], count: 2, factor: limit, ..Case::new(call, source) };
         out.push(apart(base, k % 3));
     }
     let row = Case::new(call, tight(5, &[10, 10, 40, 10, 10]));
-    for factor in [0.0, -0.0, 2f64.powi(-17), f64::from_bits(2f64.powi(-17).to_bits() - 1), f64::from_bits(1), limit, 1.0, 0.7] {
+    for factor in
+        [0.0, -0.0, 2f64.powi(-17), f64::from_bits(2f64.powi(-17).to_bits() - 1), f64::from_bits(1), limit, 1.0, 0.7]
+    {
         out.push(Case { factor, ..row.clone() });
     }
-    // where q is 1,639 the residual 40 counts, and where it is 1,638 it does not: half of 1 / 65,536 is rounded away from zero
+    // where q is 1,639 the residual 40 counts, and where it is 1,638 it does not:
+    // half of 1 / 65,536 is rounded away from zero
     let half = 1638.5f64 / 65_536.0;
     let lone = Case { border: LineBorderMode::Constant(0), ..Case::new(call, tight(1, &[60])) };
     out.extend([half, f64::from_bits(half.to_bits() - 1)].map(|factor| Case { factor, ..lone.clone() }));
@@ -196,7 +238,10 @@ fn line_filter(random: &mut Random, call: Call, limit: f64) -> Vec<Case> {
     out.push(Case { length: 11, ..row.clone() });
     out.extend([0, 1, 2, 4, 12, 13].map(|length| Case { length, ..row.clone() }));
     out.extend([f64::NAN, f64::INFINITY, f64::NEG_INFINITY].map(|angle| Case { angle, ..row.clone() }));
-    out.extend([f64::NAN, f64::INFINITY, -0.5, -1e-9, f64::from_bits(limit.to_bits() + 1)].map(|factor| Case { factor, ..row.clone() }));
+    out.extend(
+        [f64::NAN, f64::INFINITY, -0.5, -1e-9, f64::from_bits(limit.to_bits() + 1)]
+            .map(|factor| Case { factor, ..row.clone() }),
+    );
     let square = Case::new(call, noise(random, 4, 3));
     out.extend(refused_layouts(&square.source).map(|source| Case { source, ..square.clone() }));
     out.extend(refused_destinations(&square));
@@ -206,9 +251,17 @@ fn line_filter(random: &mut Random, call: Call, limit: f64) -> Vec<Case> {
 fn restoration(random: &mut Random) -> Vec<Case> {
     let mut out = line_filter(random, Call::Restoration, 1.0);
     for (k, angle) in ALONG.into_iter().enumerate() {
-        for (j, border) in [LineBorderMode::Replicate, LineBorderMode::Reflect, LineBorderMode::Constant(90)].into_iter().enumerate() {
+        for (j, border) in
+            [LineBorderMode::Replicate, LineBorderMode::Reflect, LineBorderMode::Constant(90)].into_iter().enumerate()
+        {
             let source = saturated(random, 6 + k % 2, 5);
-            out.push(Case { angle, border, length: 3 + 2 * j, count: 3 + 2 * k, ..Case::new(Call::Restoration, source) });
+            out.push(Case {
+                angle,
+                border,
+                length: 3 + 2 * j,
+                count: 3 + 2 * k,
+                ..Case::new(Call::Restoration, source)
+            });
         }
     }
     let row = Case::new(Call::Restoration, tight(5, &[10, 10, 40, 10, 10]));
@@ -223,7 +276,10 @@ fn unsharp(random: &mut Random) -> Vec<Case> {
 }
 
 fn binomial(random: &mut Random) -> Vec<Case> {
-    let mut out = vec![Case::new(Call::Binomial, tight(5, &[10, 10, 40, 10, 10])), Case::new(Call::Binomial, tight(1, &[10, 10, 40, 10, 10]))];
+    let mut out = vec![
+        Case::new(Call::Binomial, tight(5, &[10, 10, 40, 10, 10])),
+        Case::new(Call::Binomial, tight(1, &[10, 10, 40, 10, 10])),
+    ];
     for (k, (width, height)) in SIZES.into_iter().enumerate() {
         let plain = either(random, k, width, height);
         let source = padded(random, &plain, k % 4);

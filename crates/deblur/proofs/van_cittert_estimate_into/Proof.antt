@@ -1,13 +1,62 @@
--- `deblur::van_cittert_estimate_into` meets its contract: the filter's, at the settings that the configuration comes to.
+-- `deblur::van_cittert_estimate_into` meets its contract: refused by its number, or the work along the direction.
+use mathlib.Core.List.{List}
+use mathlib.Core.Path.{_≡_}
+use lib.IntN.{ℤ}
+use lib.ListN.{length}
+use Rattle.image.specs.Call.{Gray8, gray8}
+use Rattle.deblur.specs.Calls.{estimateNumber}
+use Rattle.deblur.specs.Settings.{LineFilter, restorationOf}
+use Rattle.deblur.proofs.Calls.{restoration-sound, relaxation-small, estimate-settings, estimate-asked}
+use Rattle.deblur.proofs.Calls.{estimate-refused, estimate-done}
 use borrow.Author.Needs.{needs}
 use Rattle.deblur.proofs.van_cittert_estimate_into.Statement.{statement}
 use Rattle.deblur.proofs.van_cittert_estimate_into.Tie as tie
 
-restoration-of-requires : tie.Need-restoration-of-requires
-restoration-of-requires c κs = search needs
+restoration-refusal-requires : tie.Need-restoration-refusal-requires
+restoration-refusal-requires c κs = search needs
 
-estimate-into-requires : tie.Need-estimate-into-requires
-estimate-into-requires c κs = rw (c .before .before .restoration-of .ensures) tt
+estimate-refusal-requires : tie.Need-estimate-refusal-requires
+estimate-refusal-requires c κs = search needs
+
+-- the call's picture and destination, and what its settings come to
+module _ (c : tie.After-estimate-refusal) where
+  abbrev start : tie.Start
+  start = c .before .before .before
+
+  abbrev src : Gray8
+  src = let a = start .args in gray8 (a .«data» .now) (a .width) (a .height) (a .stride)
+
+  abbrev old : List ℤ
+  old = start .args .dst .now
+
+  abbrev filter : LineFilter
+  filter = restorationOf (start .args .config)
+
+  abbrev lent : List ℤ
+  lent = start .args .scratch .now
+
+  number-is : c .estimate-refusal .result ≡ estimateNumber src (length old) filter (length lent)
+  number-is = rw (c .before .restoration-refusal .ensures) at (c .estimate-refusal .ensures)
+
+returns : tie.Need-returns
+returns c = estimate-refused (src (c .before)) (old (c .before)) (filter (c .before)) (lent (c .before))
+    (number-is (c .before)) (c .if1 .taken)
+
+from-angle-requires : tie.Need-from-angle-requires
+from-angle-requires c κs = search needs
+
+line-kernel-requires : tie.Need-line-kernel-requires
+line-kernel-requires c κs =
+    let d = c .before .before in
+    relaxation-small (start d .args .config) _ _
+    (estimate-settings (src d) (old d) (filter d) (lent d) (number-is d) (c .before .if1 .left))
+
+estimates-along-requires : tie.Need-estimates-along-requires
+estimates-along-requires c κs =
+    let k = c .before .before in
+    let d = k .before .before .before in
+    estimate-asked (src d) (old d) (filter d) (lent d) (number-is d) (k .before .before .if1 .left)
+    (restoration-sound _) (k .line-kernel .ensures)
 
 same-length : tie.Need-same-length
 same-length c = search needs
@@ -15,10 +64,25 @@ same-length c = search needs
 same-length-2 : tie.Need-same-length-2
 same-length-2 c = search needs
 
-returns : tie.Need-returns
-returns c = rw (c .before .before .before .before .before .restoration-of .ensures) at (c .before .before .estimate-into .ensures)
+returns-2 : tie.Need-returns-2
+returns-2 c =
+    let r = c .before .before in
+    let k = r .before .before .before in
+    let d = k .before .before .before in
+    estimate-done (src d) (old d) (filter d) (lent d) (number-is d) (k .before .before .if1 .left)
+    (k .before .from-angle .ensures)
+    (k .line-kernel .ensures) (r .estimates-along .ensures)
 
 pub van-cittert-estimate-into-spec : {M : Type 1} → statement M
 van-cittert-estimate-into-spec =
     tie.close
-    (tie.spec restoration-of-requires estimate-into-requires same-length same-length-2 returns)
+    (tie.spec
+    restoration-refusal-requires
+    estimate-refusal-requires
+    returns
+    from-angle-requires
+    line-kernel-requires
+    estimates-along-requires
+    same-length
+    same-length-2
+    returns-2)

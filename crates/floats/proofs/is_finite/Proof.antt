@@ -1,4 +1,5 @@
--- `floats::is_finite` meets its contract: 1.0 / 0.0 and -1.0 / 0.0 are the infinities, and the finite values are those strictly between them.
+-- `floats::is_finite` meets its contract: 1.0 / 0.0 and -1.0 / 0.0 are the infinities, and the finite values are those
+-- strictly between them.
 use mathlib.Core.Path.{_≡_, refl}
 use mathlib.Core.Bool.{true, false, false≢true, true≢false}
 use lib.Ieee.{Float, nan, inf, fin, ofBits, neg, div, lt}

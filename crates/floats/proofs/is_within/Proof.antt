@@ -1,4 +1,5 @@
--- `floats::is_within` meets its contract: what is not below 0.0 and at most the limit as a double is what refusal 8 takes.
+-- `floats::is_within` meets its contract: what is not below 0.0 and at most the limit as a double is what refusal 8
+-- takes.
 use mathlib.Core.Path.{sym}
 use native.Mathlib.Omega.{arith}
 use lib.Ieee.{ofBits, ofInt, binary64}

@@ -1,4 +1,5 @@
--- `floats::odd_length` meets its contract: its two tests are the cases of `oddLength`, and between 3 and 2 ^ 53 the raised estimate is made odd.
+-- `floats::odd_length` meets its contract: its two tests are the cases of `oddLength`, and between 3 and 2 ^ 53 the
+-- raised estimate is made odd.
 use mathlib.Core.Path.{ap, _∙_}
 use Prim.Native.Nat.{_^_}
 use native.Mathlib.Nat.{le-of-eq, le-trans}
@@ -28,13 +29,15 @@ raised-requires c κs = in-range c
 odd-from-requires : tie.Need-odd-from-requires
 odd-from-requires c κs =
     let x = c .before .before .before .args .estimate in
-    le-trans (le-of-eq (c .raised .ensures)) (ceiling-smallest (num x) (den x) (den-pos x) (2 ^ 53) (within-le (2 ^ 53) x (in-range (c .before))))
+    le-trans (le-of-eq (c .raised .ensures))
+    (ceiling-smallest (num x) (den x) (den-pos x) (2 ^ 53) (within-le (2 ^ 53) x (in-range (c .before))))
 
 returns-2 : tie.Need-returns-2
 unfolding ofBits
 returns-2 c =
-    ap Length (c .odd-from .ensures ∙ ap oddFrom (c .before .raised .ensures))
-    ∙ test-length (c .before .before .before .before .args .estimate) (c .before .before .before .if1 .left) (in-range (c .before .before))
+    let r = c .before in
+    ap Length (c .odd-from .ensures ∙ ap oddFrom (r .raised .ensures))
+    ∙ test-length (r .before .before .before .args .estimate) (r .before .before .if1 .left) (in-range (r .before))
 
 returns-3 : tie.Need-returns-3
 unfolding ofBits

@@ -21,7 +21,9 @@ round-q16-requires c κs =
 returns : tie.Need-returns
 returns c =
     let args = c .before .before .before .args in
-    ap Q16 (c .round-q16 .ensures) ∙ sym (quantized-taken (args .limit) (args .factor) (sym (c .before .before .is-within .ensures) ∙ c .before .if1 .taken))
+    ap Q16 (c .round-q16 .ensures)
+    ∙ sym (quantized-taken (args .limit) (args .factor)
+    (sym (c .before .before .is-within .ensures) ∙ c .before .if1 .taken))
 
 returns-2 : tie.Need-returns-2
 returns-2 c =

@@ -12,10 +12,13 @@ use Rattle.floats.proofs.Factor.{halves, halves-le, halves-rounded}
 use Rattle.floats.proofs.round_q16.Statement.{statement}
 use Rattle.floats.proofs.round_q16.Tie as tie
 
-product : (c : tie.Start) → Cut (mul binary64 (c .args .factor) (fin false 1 (pos 17))) (131072 * num (c .args .factor)) (den (c .args .factor))
+product : (c : tie.Start)
+    → Cut (mul binary64 (c .args .factor) (fin false 1 (pos 17))) (131072 * num (c .args .factor))
+    (den (c .args .factor))
 product c = halves (c .args .factor) (passes (fits binary64 (c .args .factor)) (c .good .0 .1)) (c .pre)
 
-counted : (c : tie.After-truncating-f64-to-u64) → c .truncating-f64-to-u64 .result ≡ 131072 * num (c .before .args .factor) / den (c .before .args .factor)
+counted : (c : tie.After-truncating-f64-to-u64)
+    → c .truncating-f64-to-u64 .result ≡ 131072 * num (c .before .args .factor) / den (c .before .args .factor)
 unfolding ofBits
 counted c = c .truncating-f64-to-u64 .ensures ∙ product (c .before) .whole
 

@@ -27,17 +27,20 @@ returns-2 c =
 
 returns-3 : tie.Need-returns-3
 returns-3 c =
+    let at-layout-refusal = c .before .before .before .before in
     sym
     (pair-6 _ _ _ _ _ _ _ _
-    (sym (c .before .before .before .before .layout-refusal .ensures) ∙ c .before .before .before .if1 .left)
+    (sym (at-layout-refusal .layout-refusal .ensures) ∙ c .before .before .before .if1 .left)
     (sym (c .before .before .layout-refusal2 .ensures) ∙ c .before .if2 .left)
     (⊎-elim (λ w. inl (w .taken)) (λ w. inr (eqb-false _ _ (not-true _ (w .1 .taken)))) (c .if3 .came)))
 
 returns-4 : tie.Need-returns-4
 returns-4 c =
+    let at-if1 = c .before .before .before .before in
+    let at-layout-refusal = at-if1 .before in
     sym
     (pair-0 _ _ _ _ _ _ _ _
-    (sym (c .before .before .before .before .before .layout-refusal .ensures) ∙ c .before .before .before .before .if1 .left)
+    (sym (at-layout-refusal .layout-refusal .ensures) ∙ at-if1 .if1 .left)
     (sym (c .before .before .before .layout-refusal2 .ensures) ∙ c .before .before .if2 .left)
     (c .before .if3 .left)
     (eqb-true _ _ (not-false _ (c .if4 .left))))

@@ -21,11 +21,13 @@ returns c =
 
 returns-2 : tie.Need-returns-2
 returns-2 c =
-    sym (pixel-outside _ _ _ _ _ _ (inr (⊎-elim (λ w. inl (w .taken)) (λ w. inr (leb-true _ _ (w .1 .taken))) (c .if2 .came))))
+    sym (pixel-outside _ _ _ _ _ _ (inr (⊎-elim (λ w. inl (w .taken))
+    (λ w. inr (leb-true _ _ (w .1 .taken))) (c .if2 .came))))
 
 -- The picture is laid, and has row r.
 module _ (c : tie.Else3) where
-  whole : let a = c .before .before .before .before .before .args in Laid (length (a .«data» .now)) (a .width) (a .height) (a .stride)
+  whole : let a = c .before .before .before .before .before .args in Laid (length (a .«data» .now))
+      (a .width) (a .height) (a .stride)
   whole = laid (sym (c .before .before .before .layout-refusal .ensures) ∙ c .before .before .if1 .left)
 
   row-below : let a = c .before .before .before .before .before .args in a .r < a .height

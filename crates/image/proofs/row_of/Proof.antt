@@ -36,7 +36,8 @@ returns c =
 
 -- The picture is laid, and has the row.
 module _ (c : tie.Else2) where
-  whole : let a = c .before .before .before .before .args in Laid (length (a .«data» .now)) (a .width) (a .height) (a .stride)
+  whole : let a =
+      c .before .before .before .before .args in Laid (length (a .«data» .now)) (a .width) (a .height) (a .stride)
   whole = laid (sym (c .before .before .layout-refusal .ensures) ∙ c .before .if1 .left)
 
   row-below : let a = c .before .before .before .before .args in a .row < a .height

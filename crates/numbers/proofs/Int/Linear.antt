@@ -1,6 +1,7 @@
--- Linear facts on ℤ by `omega`, through ups and downs: z is `up z` − `dn z`, two naturals of which one is 0.
--- `omega (arith, linear, up-add x y, ..)` reads and proves `≡`, `≤ℤ`, `<ℤ` and the tests `ltZ`, `leZ` between integers. Each sum or difference in
--- them is one listed equation, `up-add x y`, `up-sub x y` or `up-subℕ a b`; negations and products by a natural are rewritten first, by `simp updown`.
+-- Linear facts on ℤ by `omega`, through ups and downs: z is `up z` − `dn z`, two naturals of which one is 0. `omega
+-- (arith, linear, up-add x y, ..)` reads and proves `≡`, `≤ℤ`, `<ℤ` and the tests `ltZ`, `leZ` between integers. Each
+-- sum or difference in them is one listed equation, `up-add x y`, `up-sub x y` or `up-subℕ a b`; negations and products
+-- by a natural are rewritten first, by `simp updown`.
 use mathlib.Core.Path.{_≡_, refl, sym, _∙_, ap, ap₂, subst}
 use mathlib.Core.Bool.{Bool, true, false, not}
 use mathlib.Core.Logic.{_⊎_, inl, inr}
@@ -43,9 +44,11 @@ natAbs-up-dn (negsuc n) = omega arith
 -- ---- sums: one linear equation for each
 
 pub up-add : (a b : ℤ) → up (a +ℤ b) + (dn a + dn b) ≡ dn (a +ℤ b) + (up a + up b)
-up-add a b = turn (⊖-same⁻¹ _ _ _ _ (sym (up-dn (a +ℤ b)) ∙ ap₂ _+ℤ_ (up-dn a) (up-dn b) ∙ ⊖-add (up a) (dn a) (up b) (dn b)))
+up-add a b = turn (⊖-same⁻¹ _ _ _ _
+    (sym (up-dn (a +ℤ b)) ∙ ap₂ _+ℤ_ (up-dn a) (up-dn b) ∙ ⊖-add (up a) (dn a) (up b) (dn b)))
   where
-    turn : up (a +ℤ b) + (dn a + dn b) ≡ (up a + up b) + dn (a +ℤ b) → up (a +ℤ b) + (dn a + dn b) ≡ dn (a +ℤ b) + (up a + up b)
+    turn : up (a +ℤ b) + (dn a + dn b) ≡ (up a + up b) + dn (a +ℤ b)
+        → up (a +ℤ b) + (dn a + dn b) ≡ dn (a +ℤ b) + (up a + up b)
     turn e = omega arith
 
 -- ---- negation and products by a natural: rewritten
@@ -169,4 +172,19 @@ leZ-is-false a b h = is-false (leZ a b) (λ t. clash (le-up a b t))
     clash k = omega arith
 
 -- what `omega` is handed beside `arith`
-pub ruleset linear = (up-≡, ≡-by-up, up-≤ℤ, ≤ℤ-by-up, up-<ℤ, <ℤ-by-up, ltZ-true, ltZ-false, leZ-true, leZ-false, ltZ-is-true, ltZ-is-false, leZ-is-true, leZ-is-false)
+pub ruleset linear = (
+  up-≡,
+  ≡-by-up,
+  up-≤ℤ,
+  ≤ℤ-by-up,
+  up-<ℤ,
+  <ℤ-by-up,
+  ltZ-true,
+  ltZ-false,
+  leZ-true,
+  leZ-false,
+  ltZ-is-true,
+  ltZ-is-false,
+  leZ-is-true,
+  leZ-is-false,
+)

@@ -1,8 +1,9 @@
--- Answers to the needs of signed code, over any width w. The machine holds a signed number as bits, and goals read it back as `toZ w (ofZ w z)`,
--- which is z by `toZ-ofZ f` of mir.Facts, f : SFits w z. Each operation has two laws, over operands x, y that are known to be a, b (by `toZ-ofZ` or
--- by the law of the operation before; `refl` for a literal): `add-fits` says that the sum fits, `add-held` what is read back. A test is read by
--- `omega (arith, linear, c .if1 .taken, toZ-ofZ f)`, or by `read-lt`, `read-nlt`, `read-le`, `read-nle`; `ofZ-inj` reads `==`.
--- An unsigned n read as signed is `toZ-pos` of mir.Facts; a wider width is `sfits-widen` there.
+-- Answers to the needs of signed code, over any width w. The machine holds a signed number as bits, and goals read it
+-- back as `toZ w (ofZ w z)`, which is z by `toZ-ofZ f` of mir.Facts, f : SFits w z. Each operation has two laws, over
+-- operands x, y that are known to be a, b (by `toZ-ofZ` or by the law of the operation before; `refl` for a literal):
+-- `add-fits` says that the sum fits, `add-held` what is read back. A test is read by `omega (arith, linear, c .if1
+-- .taken, toZ-ofZ f)`, or by `read-lt`, `read-nlt`, `read-le`, `read-nle`; `ofZ-inj` reads `==`. An unsigned n read as
+-- signed is `toZ-pos` of mir.Facts; a wider width is `sfits-widen` there.
 use mathlib.Core.Path.{_≡_, sym, _∙_, ap, ap₂, subst}
 use mathlib.Core.Bool.{true, false}
 use Prim.Native.Nat.{ℕ, zero, suc, _+_, _*_, _/_, _^_, _≤_, _<_}
@@ -124,5 +125,6 @@ ofZ-inj {w} f g e = sym (toZ-ofZ f) ∙ ap (toZ w) e ∙ toZ-ofZ g
 
 -- ---- a cast to an unsigned type
 
-pub cast-unsigned : (w′ : Width) {x z : ℤ} → x ≡ z → pos 0 ≤ℤ z → natAbs z < 2 ^ bits w′ → T (nonNeg x) × Fits w′ (natAbs x)
+pub cast-unsigned : (w′ : Width) {x z : ℤ} → x ≡ z → pos 0 ≤ℤ z → natAbs z < 2 ^ bits w′
+    → T (nonNeg x) × Fits w′ (natAbs x)
 cast-unsigned w′ e h k = rw e (yes-nonNeg h, record { fits = k })

@@ -1,21 +1,15 @@
--- The order on ℤ: transitivity, antisymmetry, the decision, and how sums and products by a natural keep it.
--- Most are instances of `omega (arith, linear, ..)`; here are those that are cited by name.
+-- The order on ℤ: transitivity, antisymmetry, and how sums and products by a natural keep it. Most are instances of
+-- `omega (arith, linear, ..)`; here are those that are cited by name.
 use mathlib.Core.Path.{_≡_}
-use mathlib.Core.Bool.{Bool, true, false, not}
-use mathlib.Core.Logic.{_⊎_, inl, inr}
 use Prim.Native.Nat.{ℕ, _+_, _*_, _≤_, _<_}
-use native.Mathlib.Nat.{mul-le-mul-left, mul-lt-mul-of-pos-left, le-of-mul-le-mul-left, lt-of-mul-lt-mul-left}
+use native.Mathlib.Nat.{lt-of-mul-lt-mul-left}
 use native.Mathlib.Omega.{arith}
-use lib.Dec.{T}
-use lib.IntN.{ℤ, pos, negℤ, _+ℤ_, _-ℤ_, _*ℤ_}
-use lib.Signed.{_≤ℤ_, _<ℤ_, ltZ, ltZ-yes, ltZ-no}
-use Rattle.numbers.proofs.Int.Linear.{up, dn, linear, updown, up-add, up-sub, up-≤ℤ, up-<ℤ, ≤ℤ-by-up, <ℤ-by-up}
+use lib.IntN.{ℤ, pos, negℤ, _+ℤ_, _*ℤ_}
+use lib.Signed.{_≤ℤ_, _<ℤ_}
+use Rattle.numbers.proofs.Int.Linear.{up, dn, linear, updown, up-add, up-<ℤ, ≤ℤ-by-up, <ℤ-by-up}
 
 pub ≤ℤ-trans : {a b c : ℤ} → a ≤ℤ b → b ≤ℤ c → a ≤ℤ c
 ≤ℤ-trans h k = omega (arith, linear)
-
-pub <ℤ-trans : {a b c : ℤ} → a <ℤ b → b <ℤ c → a <ℤ c
-<ℤ-trans h k = omega (arith, linear)
 
 pub ≤ℤ-<ℤ-trans : {a b c : ℤ} → a ≤ℤ b → b <ℤ c → a <ℤ c
 ≤ℤ-<ℤ-trans h k = omega (arith, linear)
@@ -23,27 +17,13 @@ pub ≤ℤ-<ℤ-trans : {a b c : ℤ} → a ≤ℤ b → b <ℤ c → a <ℤ c
 pub ≤ℤ-antisym : {a b : ℤ} → a ≤ℤ b → b ≤ℤ a → a ≡ b
 ≤ℤ-antisym h k = omega (arith, linear)
 
-pub ≤ℤ-of-≡ : {a b : ℤ} → a ≡ b → a ≤ℤ b
-≤ℤ-of-≡ e = omega (arith, linear)
-
 pub ≤ℤ-of-<ℤ : {a b : ℤ} → a <ℤ b → a ≤ℤ b
 ≤ℤ-of-<ℤ h = omega (arith, linear)
-
--- one of the two, by the test
-pub <ℤ-or-≥ℤ : (a b : ℤ) → (a <ℤ b) ⊎ (b ≤ℤ a)
-<ℤ-or-≥ℤ a b = pick (ltZ a b) (λ t. ltZ-yes {a = a} {b = b} t) (λ t. ltZ-no {a = a} {b = b} t)
-  where
-    pick : {X Y : Type 0} (t : Bool) → (T t → X) → (T (not t) → Y) → X ⊎ Y
-    pick true f g = inl (f tt)
-    pick false f g = inr (g tt)
 
 -- ---- naturals
 
 pub pos-≤ℤ : {m n : ℕ} → m ≤ n → pos m ≤ℤ pos n
 pos-≤ℤ h = omega (arith, linear)
-
-pub pos-≤ℤ⁻¹ : {m n : ℕ} → pos m ≤ℤ pos n → m ≤ n
-pos-≤ℤ⁻¹ h = omega (arith, linear)
 
 pub pos-<ℤ : {m n : ℕ} → m < n → pos m <ℤ pos n
 pos-<ℤ h = omega (arith, linear)
@@ -52,9 +32,6 @@ pub pos-<ℤ⁻¹ : {m n : ℕ} → pos m <ℤ pos n → m < n
 pos-<ℤ⁻¹ h = omega (arith, linear)
 
 -- ---- one more
-
-pub <ℤ-suc : {a b : ℤ} → a ≤ℤ b → a <ℤ (b +ℤ pos 1)
-<ℤ-suc {b = b} h = omega (arith, linear, up-add b (pos 1))
 
 pub ≤ℤ-of-<ℤ-suc : (a b : ℤ) → a <ℤ (b +ℤ pos 1) → a ≤ℤ b
 ≤ℤ-of-<ℤ-suc a b h = omega (arith, linear, up-add b (pos 1))
@@ -70,26 +47,8 @@ pub +ℤ-mono : {a b c d : ℤ} → a ≤ℤ b → c ≤ℤ d → (a +ℤ c) ≤
 pub +ℤ-mono-< : {a b c d : ℤ} → a <ℤ b → c ≤ℤ d → (a +ℤ c) <ℤ (b +ℤ d)
 +ℤ-mono-< {a} {b} {c} {d} h k = omega (arith, linear, up-add a c, up-add b d)
 
-pub +ℤ-≤-cancel : (c a b : ℤ) → (a +ℤ c) ≤ℤ (b +ℤ c) → a ≤ℤ b
-+ℤ-≤-cancel c a b h = omega (arith, linear, up-add a c, up-add b c)
-
-pub -ℤ-mono : {a b c d : ℤ} → a ≤ℤ b → d ≤ℤ c → (a -ℤ c) ≤ℤ (b -ℤ d)
--ℤ-mono {a} {b} {c} {d} h k = omega (arith, linear, up-sub a c, up-sub b d)
-
 pub negℤ-mono : {a b : ℤ} → a ≤ℤ b → negℤ b ≤ℤ negℤ a
 negℤ-mono {a} {b} h = ≤ℤ-by-up (negℤ b) (negℤ a) (simp updown (omega (arith, linear)))
-
-pub *ℤ-mono : (m : ℕ) {a b : ℤ} → a ≤ℤ b → (pos m *ℤ a) ≤ℤ (pos m *ℤ b)
-*ℤ-mono m {a} {b} h = ≤ℤ-by-up (pos m *ℤ a) (pos m *ℤ b) (simp updown (omega (arith, mul-le-mul-left m (up-≤ℤ h))))
-
-pub *ℤ-mono-< : {m : ℕ} → 0 < m → {a b : ℤ} → a <ℤ b → (pos m *ℤ a) <ℤ (pos m *ℤ b)
-*ℤ-mono-< {m} p {a} {b} h = <ℤ-by-up (pos m *ℤ a) (pos m *ℤ b) (simp updown (omega (arith, mul-lt-mul-of-pos-left (up-<ℤ h) p)))
-
-pub *ℤ-≤-cancel : {m : ℕ} → 0 < m → (a b : ℤ) → (pos m *ℤ a) ≤ℤ (pos m *ℤ b) → a ≤ℤ b
-*ℤ-≤-cancel {m} p a b h = ≤ℤ-by-up a b (le-of-mul-le-mul-left (part (simp updown at (up-≤ℤ h))) p)
-  where
-    part : m * up a + m * dn b ≤ m * up b + m * dn a → m * (up a + dn b) ≤ m * (up b + dn a)
-    part k = omega arith
 
 pub *ℤ-<-cancel : (m : ℕ) (a b : ℤ) → (pos m *ℤ a) <ℤ (pos m *ℤ b) → a <ℤ b
 *ℤ-<-cancel m a b h = <ℤ-by-up a b (lt-of-mul-lt-mul-left m (part (simp updown at (up-<ℤ h))))

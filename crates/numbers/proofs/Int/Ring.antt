@@ -1,12 +1,13 @@
--- Ring equations on ℤ. `a ⊖ b` is a − b for two naturals; every integer is one (`z-ind`), and sums, negations and products of them are again
--- such (`zring`). So an equation is proved in one line: `z-ind _ λ a a′. z-ind _ λ b b′. simp zring (omega (arith, ⊖-same))`.
--- Then the laws that lib.IntN lacks: associativity and distributivity of the product, signs, cancellation, differences.
+-- Ring equations on ℤ. `a ⊖ b` is a − b for two naturals; every integer is one (`z-ind`), and sums, negations and
+-- products of them are again such (`zring`). So an equation is proved in one line: `z-ind _ λ a a′. z-ind _ λ b b′.
+-- simp zring (omega (arith, ⊖-same))`. Then the laws that are cited by name.
 use mathlib.Core.Path.{_≡_, refl, sym, _∙_, ap, ap₂, subst}
 use Prim.Native.Nat.{ℕ, zero, suc, _+_, _*_, _-_, _≤_, _<_, zero-le}
-use native.Mathlib.Nat.{eq-of-mul-eq-mul-left}
 use native.Mathlib.Omega.{arith}
 use borrow.Author.Tests.{le-ltb, lt-ltb}
-use lib.IntN.{ℤ, pos, negsuc, sucℤ, predℤ, negℤ, subℕ, _+ℤ_, _-ℤ_, _*ℤ_, ℤ-ind, +ℤ-idl, +ℤ-idr, +ℤ-assoc, +ℤ-comm, +ℤ-invr, negℤ-+ℤ, negℤ-negℤ, sucℤ-*ℤ, predℤ-*ℤ, *ℤ-comm, zero-*ℤ, +ℤ-one, -ℤ-one, sucℤ-+ℤ, predℤ-+ℤ, natAbs, +ℤ-negℤ-cancel, -ℤ-+ℤ-cancel}
+use lib.IntN.{ℤ, pos, negsuc, sucℤ, predℤ, negℤ, subℕ, _+ℤ_, _-ℤ_, _*ℤ_, ℤ-ind, +ℤ-idl, +ℤ-idr, +ℤ-assoc, +ℤ-comm}
+use lib.IntN.{+ℤ-invr, negℤ-+ℤ, negℤ-negℤ, sucℤ-*ℤ, predℤ-*ℤ, *ℤ-comm, zero-*ℤ, +ℤ-one, -ℤ-one, sucℤ-+ℤ, predℤ-+ℤ}
+use lib.IntN.{natAbs, +ℤ-negℤ-cancel}
 
 -- ---- a − b
 
@@ -39,7 +40,8 @@ z-ind P f (negsuc n) = subst P (sym (negsuc-⊖ n)) (f 0 (suc n))
 -- ---- its sum, negation and product
 
 pub +ℤ-swap : (a b c d : ℤ) → (a +ℤ b) +ℤ (c +ℤ d) ≡ (a +ℤ c) +ℤ (b +ℤ d)
-+ℤ-swap a b c d = +ℤ-assoc a b (c +ℤ d) ∙ ap (a +ℤ_) (sym (+ℤ-assoc b c d) ∙ ap (_+ℤ d) (+ℤ-comm b c) ∙ +ℤ-assoc c b d) ∙ sym (+ℤ-assoc a c (b +ℤ d))
++ℤ-swap a b c d = +ℤ-assoc a b (c +ℤ d) ∙ ap (a +ℤ_) (sym (+ℤ-assoc b c d) ∙ ap (_+ℤ d) (+ℤ-comm b c) ∙ +ℤ-assoc c b d)
+    ∙ sym (+ℤ-assoc a c (b +ℤ d))
 
 pub ⊖-add : (a b c d : ℕ) → (a ⊖ b) +ℤ (c ⊖ d) ≡ (a + c) ⊖ (b + d)
 ⊖-add a b c d =
@@ -82,7 +84,8 @@ add-*ℤ a b c =
     ℤ-ind (λ (z : ℤ). (z +ℤ b) *ℤ c ≡ z *ℤ c +ℤ b *ℤ c)
     (ap (_*ℤ c) (+ℤ-idl b) ∙ sym (ap (_+ℤ b *ℤ c) (zero-*ℤ c) ∙ +ℤ-idl (b *ℤ c)))
     (λ n h. subst (λ (z : ℤ). (z +ℤ b) *ℤ c ≡ z *ℤ c +ℤ b *ℤ c) (sym (+ℤ-one (pos n))) (suc-step (pos n) b c h))
-    (λ n h. subst (λ (z : ℤ). (z +ℤ b) *ℤ c ≡ z *ℤ c +ℤ b *ℤ c) (sym (-ℤ-one (negℤ (pos n)))) (pred-step (negℤ (pos n)) b c h))
+    (λ n h. subst (λ (z : ℤ). (z +ℤ b) *ℤ c ≡ z *ℤ c +ℤ b *ℤ c) (sym (-ℤ-one (negℤ (pos n))))
+    (pred-step (negℤ (pos n)) b c h))
     a
 
 pub *ℤ-add : (a b c : ℤ) → a *ℤ (b +ℤ c) ≡ a *ℤ b +ℤ a *ℤ c
@@ -106,7 +109,8 @@ pub ⊖-mul : (a b c d : ℕ) → (a ⊖ b) *ℤ (c ⊖ d) ≡ (a * c + b * d) �
     ∙ ⊖-add (a * c) (a * d) (b * d) (b * c)
   where
     times : (n : ℕ) → pos n *ℤ (pos c -ℤ pos d) ≡ (n * c) ⊖ (n * d)
-    times n = *ℤ-add (pos n) (pos c) (negℤ (pos d)) ∙ ap (pos (n * c) +ℤ_) (*ℤ-neg (pos n) (pos d)) ∙ sym (⊖-is (n * c) (n * d))
+    times n = *ℤ-add (pos n) (pos c) (negℤ (pos d)) ∙ ap (pos (n * c) +ℤ_) (*ℤ-neg (pos n) (pos d))
+        ∙ sym (⊖-is (n * c) (n * d))
 
 -- ---- equal differences
 
@@ -123,7 +127,8 @@ pub ⊖-same⁻¹ : (a b c d : ℕ) → a ⊖ b ≡ c ⊖ d → a + d ≡ c + b
 ⊖-same⁻¹ a b c d e = pos-inj (cast ∙ ap (_+ℤ pos (b + d)) e ∙ sym cast′)
   where
     plus : (m n k : ℕ) → (m ⊖ n) +ℤ pos (n + k) ≡ pos (m + k)
-    plus m n k = ap ((m ⊖ n) +ℤ_) (pos-⊖ (n + k)) ∙ ⊖-add m n (n + k) 0 ∙ ⊖-same (m + (n + k)) (n + 0) (m + k) 0 (omega arith) ∙ sym (pos-⊖ (m + k))
+    plus m n k = ap ((m ⊖ n) +ℤ_) (pos-⊖ (n + k)) ∙ ⊖-add m n (n + k) 0
+        ∙ ⊖-same (m + (n + k)) (n + 0) (m + k) 0 (omega arith) ∙ sym (pos-⊖ (m + k))
 
     cast : pos (a + d) ≡ (a ⊖ b) +ℤ pos (b + d)
     cast = sym (plus a b d)
@@ -135,9 +140,6 @@ pub ⊖-same⁻¹ : (a b c d : ℕ) → a ⊖ b ≡ c ⊖ d → a + d ≡ c + b
 pub ruleset zring = (pos-⊖, negsuc-⊖, ⊖-add, ⊖-neg, ⊖-mul)
 
 -- ---- subℕ, by which places are written
-
-pub subℕ-same : (a b c d : ℕ) → a + d ≡ c + b → subℕ a b ≡ subℕ c d
-subℕ-same a b c d e = sym (⊖-sub a b) ∙ ⊖-same a b c d e ∙ ⊖-sub c d
 
 pub subℕ-add : (a b c : ℕ) → subℕ a b +ℤ pos c ≡ subℕ (a + c) b
 subℕ-add a b c =
@@ -155,23 +157,11 @@ subℕ-neg {a} {b} h = rw (lt-ltb a b h)
 
 -- ---- products
 
-pub *ℤ-assoc : (a b c : ℤ) → a *ℤ b *ℤ c ≡ a *ℤ (b *ℤ c)
-*ℤ-assoc = z-ind _ λ a a′. z-ind _ λ b b′. z-ind _ λ c c′. simp zring (omega (arith, ⊖-same))
-
-pub *ℤ-left-comm : (a b c : ℤ) → a *ℤ (b *ℤ c) ≡ b *ℤ (a *ℤ c)
-*ℤ-left-comm = z-ind _ λ a a′. z-ind _ λ b b′. z-ind _ λ c c′. simp zring (omega (arith, ⊖-same))
-
-pub sub-*ℤ : (a b c : ℤ) → (a -ℤ b) *ℤ c ≡ a *ℤ c -ℤ b *ℤ c
-sub-*ℤ = z-ind _ λ a a′. z-ind _ λ b b′. z-ind _ λ c c′. simp zring (omega (arith, ⊖-same))
-
 pub *ℤ-sub : (a b c : ℤ) → a *ℤ (b -ℤ c) ≡ a *ℤ b -ℤ a *ℤ c
 *ℤ-sub = z-ind _ λ a a′. z-ind _ λ b b′. z-ind _ λ c c′. simp zring (omega (arith, ⊖-same))
 
 pub one-*ℤ : (z : ℤ) → pos 1 *ℤ z ≡ z
 one-*ℤ = z-ind _ λ a a′. simp zring (omega (arith, ⊖-same))
-
-pub neg-*ℤ-neg : (a b : ℤ) → negℤ a *ℤ negℤ b ≡ a *ℤ b
-neg-*ℤ-neg = z-ind _ λ a a′. z-ind _ λ b b′. simp zring (omega (arith, ⊖-same))
 
 -- a product by a natural, in the laws that sums by steps use
 pub suc-*ℤ : (n : ℕ) (z : ℤ) → pos (suc n) *ℤ z ≡ pos n *ℤ z +ℤ z
@@ -179,14 +169,8 @@ suc-*ℤ n = z-ind _ λ a a′. simp zring (omega (arith, ⊖-same))
 
 -- ---- sums and differences
 
-pub +ℤ-left-comm : (a b c : ℤ) → a +ℤ (b +ℤ c) ≡ b +ℤ (a +ℤ c)
-+ℤ-left-comm = z-ind _ λ a a′. z-ind _ λ b b′. z-ind _ λ c c′. simp zring (omega (arith, ⊖-same))
-
 pub -ℤ-self : (z : ℤ) → z -ℤ z ≡ pos 0
 -ℤ-self = +ℤ-invr
-
-pub neg-sub : (a b : ℤ) → negℤ (a -ℤ b) ≡ b -ℤ a
-neg-sub = z-ind _ λ a a′. z-ind _ λ b b′. simp zring (omega (arith, ⊖-same))
 
 pub add-sub-cancel-left : (a b : ℤ) → a +ℤ b -ℤ a ≡ b
 add-sub-cancel-left = z-ind _ λ a a′. z-ind _ λ b b′. simp zring (omega (arith, ⊖-same))
@@ -194,28 +178,6 @@ add-sub-cancel-left = z-ind _ λ a a′. z-ind _ λ b b′. simp zring (omega (a
 pub add-sub-assoc : (a b c : ℤ) → a +ℤ b -ℤ c ≡ a +ℤ (b -ℤ c)
 add-sub-assoc a b c = +ℤ-assoc a b (negℤ c)
 
-pub sub-add-sub : (a b c : ℤ) → (a -ℤ b) +ℤ (b -ℤ c) ≡ a -ℤ c
-sub-add-sub = z-ind _ λ a a′. z-ind _ λ b b′. z-ind _ λ c c′. simp zring (omega (arith, ⊖-same))
-
 -- a sum moved to the other side
 pub sub-of-add : (a b : ℤ) {c : ℤ} → a +ℤ b ≡ c → a ≡ c -ℤ b
 sub-of-add a b e = sym (+ℤ-negℤ-cancel a b) ∙ ap (_-ℤ b) e
-
-pub add-of-sub : {a : ℤ} (b c : ℤ) → a ≡ c -ℤ b → a +ℤ b ≡ c
-add-of-sub b c e = ap (_+ℤ b) e ∙ -ℤ-+ℤ-cancel c b
-
--- ---- cancellation
-
-pub +ℤ-cancel-r : (c : ℤ) {a b : ℤ} → a +ℤ c ≡ b +ℤ c → a ≡ b
-+ℤ-cancel-r c {a} {b} e = sym (+ℤ-negℤ-cancel a c) ∙ ap (_-ℤ c) e ∙ +ℤ-negℤ-cancel b c
-
-pub +ℤ-cancel-l : (c : ℤ) {a b : ℤ} → c +ℤ a ≡ c +ℤ b → a ≡ b
-+ℤ-cancel-l c {a} {b} e = +ℤ-cancel-r c (+ℤ-comm a c ∙ e ∙ +ℤ-comm c b)
-
-pub *ℤ-cancel : (m : ℕ) → 0 < m → (a b : ℤ) → pos m *ℤ a ≡ pos m *ℤ b → a ≡ b
-*ℤ-cancel m h = z-ind _ λ a a′. z-ind _ λ b b′. λ e.
-    let f : (m * a + 0 * a′) + (m * b′ + 0 * b) ≡ (m * b + 0 * b′) + (m * a′ + 0 * a) = ⊖-same⁻¹ _ _ _ _ (simp zring at e) in
-    ⊖-same a a′ b b′ (eq-of-mul-eq-mul-left m h (a + b′) (b + a′) (omega arith))
-
-pub sub-zero→≡ : {a b : ℤ} → a -ℤ b ≡ pos 0 → a ≡ b
-sub-zero→≡ {a} {b} e = sym (-ℤ-+ℤ-cancel a b) ∙ ap (_+ℤ b) e ∙ +ℤ-idl b

@@ -2,13 +2,14 @@
 use mathlib.Core.Path.{_≡_, refl}
 use mathlib.Core.Logic.{⊎-elim}
 use Prim.Native.Nat.{ℕ, zero, suc, _+_, _*_, _/_, _%_, _^_, _≤_, _<_}
-use native.Mathlib.Nat.{div-le-of-le-mul, div-lt-iff-lt-mul, mul-le-mul-left, le-refl, lt-of-le-of-lt}
+use native.Mathlib.Nat.{div-le-of-le-mul, div-lt-iff-lt-mul, le-refl, lt-of-le-of-lt}
 use native.Mathlib.Omega.{arith}
 use lib.IntN.{ℤ, pos, negsuc, negℤ, natAbs, _+ℤ_, _-ℤ_, _*ℤ_}
 use lib.Signed.{_≤ℤ_, quotZ, remZ, shrZ, mag, natAbs-le}
 use mir.Syntax.{Width}
 use mir.Val.{SFits, hbits}
-use Rattle.numbers.proofs.Int.Linear.{up, dn, up-or-dn, natAbs-up-dn, updown, linear, up-add, up-sub, up-≤ℤ, ≤ℤ-by-up}
+use Rattle.numbers.proofs.Int.Linear.{up, dn, up-or-dn, natAbs-up-dn, updown, linear, up-add, up-sub, up-≤ℤ}
+use Rattle.numbers.proofs.Int.Linear.{≤ℤ-by-up}
 
 -- ---- the operations
 
@@ -47,9 +48,6 @@ natAbs-rem (negsuc a) b = natAbs-neg (pos (suc a % natAbs b))
 pub natAbs-shr : (z : ℤ) (m k : ℕ) → 0 < m → natAbs z ≤ k * m → natAbs (shrZ z m) ≤ k
 natAbs-shr (pos a) m k p h = div-le-of-le-mul m (omega arith)
 natAbs-shr (negsuc a) m k p h = div-lt-iff-lt-mul p .1 h
-
-pub natAbs-shr-le : (z : ℤ) (m : ℕ) → 0 < m → natAbs (shrZ z m) ≤ natAbs z
-natAbs-shr-le z m p = natAbs-shr z m (natAbs z) p (omega (arith, mul-le-mul-left (natAbs z) p))
 
 pub natAbs-zero : (z : ℤ) → natAbs z ≡ 0 → z ≡ pos 0
 natAbs-zero z e = omega (arith, linear, natAbs-up-dn z)

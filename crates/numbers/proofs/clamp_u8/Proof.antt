@@ -17,7 +17,8 @@ returns c =
 
 returns-2 : tie.Need-returns-2
 returns-2 c =
-    sym (clamp-above {z = c .before .before .args .v} (omega (arith, linear, c .if2 .taken, toZ-ofZ (c .before .before .fits .v))))
+    sym (clamp-above {z = c .before .before .args .v}
+    (omega (arith, linear, c .if2 .taken, toZ-ofZ (c .before .before .fits .v))))
 
 low : (c : tie.Else2) → pos 0 ≤ℤ c .before .before .args .v
 low c = omega (arith, linear, c .before .if1 .left, toZ-ofZ (c .before .before .fits .v))

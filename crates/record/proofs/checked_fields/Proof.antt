@@ -22,18 +22,18 @@ is-legal-requires c κs = search needs
 returns : tie.Need-returns
 returns c =
     let e = c .before .before .fields-of .ensures in
-    ap Legal e ∙ sym (checked-legal _ (ap legal (sym e) ∙ sym (c .before .is-legal .ensures) ∙ c .if3 .taken))
+    ap Legal e ∙ sym (checked-legal _ _ (ap (legal _) (sym e) ∙ sym (c .before .is-legal .ensures) ∙ c .if3 .taken))
 
 returns-2 : tie.Need-returns-2
 returns-2 c =
     let e = c .before .before .fields-of .ensures in
-    sym (checked-broken _ (ap legal (sym e) ∙ sym (c .before .is-legal .ensures) ∙ c .if3 .left))
+    sym (checked-broken _ _ (ap (legal _) (sym e) ∙ sym (c .before .is-legal .ensures) ∙ c .if3 .left))
 
 returns-3 : tie.Need-returns-3
-returns-3 c = sym (checked-broken _ (estimate-broken _ _ (sym (c .before .is-finite2 .ensures) ∙ c .if2 .left)))
+returns-3 c = sym (checked-broken _ _ (estimate-broken _ _ _ (sym (c .before .is-finite2 .ensures) ∙ c .if2 .left)))
 
 returns-4 : tie.Need-returns-4
-returns-4 c = sym (checked-broken _ (angle-broken _ _ (sym (c .before .is-finite .ensures) ∙ c .if1 .left)))
+returns-4 c = sym (checked-broken _ _ (angle-broken _ _ _ (sym (c .before .is-finite .ensures) ∙ c .if1 .left)))
 
 pub checked-fields-spec : {M : Type 1} → statement M
 checked-fields-spec =

@@ -22,7 +22,8 @@ finite-here c = sym (c .before .before .is-finite .ensures) ∙ c .before .if1 .
 float-to-bits-result : tie.Need-float-to-bits-result
 float-to-bits-result c =
     let a = c .before .before .before in
-    not-nan _ (ap isNan (c .factor-of-q16 .ensures) ∙ finite-number _ (factor-finite (a .args .q) (omega (arith, a .fits .q))))
+    let finite = factor-finite (a .args .q) (omega (arith, a .fits .q)) in
+    not-nan _ (ap isNan (c .factor-of-q16 .ensures) ∙ finite-number _ finite)
 
 float-to-bits-result-2 : tie.Need-float-to-bits-result-2
 float-to-bits-result-2 c = not-nan _ (finite-number _ (finite-here c))
@@ -36,4 +37,12 @@ unfolding isFactor
 returns-2 c = rw (sym (c .before .is-finite .ensures) ∙ c .if1 .left)
 
 pub is-factor-spec : {M : Type 1} → statement M
-is-factor-spec = tie.close (tie.spec is-finite-requires factor-of-q16-requires float-to-bits-result float-to-bits-result-2 returns returns-2)
+is-factor-spec =
+    tie.close
+    (tie.spec
+    is-finite-requires
+    factor-of-q16-requires
+    float-to-bits-result
+    float-to-bits-result-2
+    returns
+    returns-2)

@@ -16,7 +16,8 @@ index-requires : tie.Need-index-requires
 index-requires c κs = search needs
 
 float-to-bits-result : tie.Need-float-to-bits-result
-float-to-bits-result c = not-nan _ (finite-number _ (sym (c .before .before .before .is-finite .ensures) ∙ c .before .before .if1 .taken))
+float-to-bits-result c =
+    not-nan _ (finite-number _ (sym (c .before .before .before .is-finite .ensures) ∙ c .before .before .if1 .taken))
 
 returns : tie.Need-returns
 unfolding isJob
@@ -26,7 +27,8 @@ returns-2 : tie.Need-returns-2
 unfolding isJob
 returns-2 c =
     let r = c .before .before .args .«record» in
-    sym (and-false-right (eqb (directionIndex (r .direction)) 0) (bits-not-zero (r .estimate) (sym (c .before .is-finite .ensures) ∙ c .if1 .left)))
+    let not-finite = sym (c .before .is-finite .ensures) ∙ c .if1 .left in
+    sym (and-false-right (eqb (directionIndex (r .direction)) 0) (bits-not-zero (r .estimate) not-finite))
 
 pub is-job-spec : {M : Type 1} → statement M
 is-job-spec = tie.close (tie.spec is-finite-requires index-requires float-to-bits-result returns returns-2)

@@ -19,7 +19,8 @@ enum-told c = search needs
 returns : tie.Need-returns
 unfolding recordFields
 returns c =
-    rw (← c .before .before .before .before .filter-q .ensures, c .before .before .q .given .1) (c .checked-fields .ensures)
+    let known = c .before .before in
+    rw (← known .before .before .filter-q .ensures, known .q .given .1) (c .checked-fields .ensures)
 
 returns-2 : tie.Need-returns-2
 unfolding recordFields

@@ -2,28 +2,35 @@
 use borrow.Author.Needs.{needs}
 use Rattle.record.specs.Record.{recordOf}
 use Rattle.record.proofs.Doubles.{finite-pattern}
-use Rattle.record.proofs.Legal.{sound}
+use Rattle.record.proofs.Legal.{Sound, sound}
 use Rattle.record.proofs.record_of.Statement.{statement}
 use Rattle.record.proofs.record_of.Tie as tie
 
-direction-from-requires : tie.Need-direction-from-requires
-direction-from-requires c κs = search needs
+from-index-requires : tie.Need-from-index-requires
+from-index-requires c κs = search needs
 
-border-from-requires : tie.Need-border-from-requires
-border-from-requires c κs = search needs
+from-code-requires : tie.Need-from-code-requires
+from-code-requires c κs = search needs
 
-filter-from-requires : tie.Need-filter-from-requires
-filter-from-requires c κs = search needs
+within : (c : tie.Start) → Sound (c .args .filter) (c .args .fields)
+within c = sound (c .args .fields) (c .args .filter) (c .pre)
 
 float-from-bits-t5 : tie.Need-float-from-bits-t5
-float-from-bits-t5 c = let a = c .before .before .before .before in finite-pattern _ (sound (a .args .fields) (a .pre) .angle)
+float-from-bits-t5 c = finite-pattern _ (within (c .before .before .before) .angle)
 
 float-from-bits-t6 : tie.Need-float-from-bits-t6
-float-from-bits-t6 c = let a = c .before .before .before .before .before in finite-pattern _ (sound (a .args .fields) (a .pre) .estimate)
+float-from-bits-t6 c = let first = c .before in finite-pattern _ (within (first .before .before .before) .estimate)
 
 returns : tie.Need-returns
 unfolding recordOf
 returns c = cc
 
 pub record-of-spec : {M : Type 1} → statement M
-record-of-spec = tie.close (tie.spec direction-from-requires border-from-requires filter-from-requires float-from-bits-t5 float-from-bits-t6 returns)
+record-of-spec =
+    tie.close
+    (tie.spec
+    from-index-requires
+    from-code-requires
+    float-from-bits-t5
+    float-from-bits-t6
+    returns)

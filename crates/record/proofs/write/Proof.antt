@@ -19,15 +19,20 @@ same-length c = search needs
 
 returns : tie.Need-returns
 returns c =
-    let a = c .before .before in
-    wrote-legal _ _ _ _ (a .before .before .before .before .before .before .if1 .taken) (sym (a .before .before .before .before .before .record-fields .ensures) ∙ a .before .before .before .fields .given .1)
-    (a .put-fields .ensures)
+    let put = c .before .before in
+    let named = put .before .before .before in
+    let call = named .before .before in
+    let whole = call .before .if1 .taken in
+    wrote-legal _ _ _ _ whole (sym (call .record-fields .ensures) ∙ named .fields .given .1)
+    (put .put-fields .ensures)
 
 enum-told : tie.Need-enum-told
 enum-told c = search needs
 
 returns-2 : tie.Need-returns-2
-returns-2 c = wrote-broken _ _ _ (c .before .before .before .if1 .taken) (sym (c .before .before .record-fields .ensures) ∙ c .enum-told .given .1) refl
+returns-2 c =
+    let call = c .before .before in
+    wrote-broken _ _ _ (call .before .if1 .taken) (sym (call .record-fields .ensures) ∙ c .enum-told .given .1) refl
 
 returns-3 : tie.Need-returns-3
 returns-3 c = wrote-short _ _ _ (c .if1 .left) refl

@@ -47,7 +47,10 @@ enum-known-answer c = search needs
 
 -- what is printed fits its array
 printed-fits : tie.Need-array-share-prefix-out
-printed-fits c = let call = c .before .before .before .before .run in rw (call .kept .1 .1 .0) (ran-fits (call .ensures) (c .before .answer .given .1))
+printed-fits c =
+    let at-run = c .before .before .before .before in
+    let call = at-run .run in rw (call .kept .1 .1 .0)
+    (ran-fits (call .ensures) (call .kept .1 .1 .0) (c .before .answer .given .1))
 
 array-share-prefix-out : tie.Need-array-share-prefix-out
 array-share-prefix-out c = printed-fits c

@@ -23,13 +23,18 @@ slice-aggregate-copy : tie.Need-slice-aggregate-copy
 slice-aggregate-copy c = sym (length-take-le _ _ (front-fits (c .before .before .before .compose .ensures)))
 
 copy-requires : tie.Need-copy-requires
-copy-requires c κs = rw (length-take-le _ _ (front-fits (c .before .before .before .before .compose .ensures))) (c .before .before .if1 .left)
+copy-requires c κs =
+    let at-compose = c .before .before .before .before in
+    rw (length-take-le _ _ (front-fits (at-compose .compose .ensures))) (c .before .before .if1 .left)
 
 same-length : tie.Need-same-length
 same-length c = search needs
 
 returns-2 : tie.Need-returns-2
-returns-2 c = ran-whole _ _ (c .before .before .before .before .before .before .before .compose .ensures) _ (c .before .before .before .before .before .if1 .left) (c .before .before .copy .ensures .1)
+returns-2 c =
+    let at-if1 = c .before .before .before .before .before in
+    let at-compose = at-if1 .before .before in
+    ran-whole _ _ (at-compose .compose .ensures) _ (at-if1 .if1 .left) (c .before .before .copy .ensures .1)
 
 pub run-spec : {M : Type 1} → statement M
 run-spec =

@@ -38,7 +38,8 @@ write-all-requires c κs = search needs
 
 slice-aggregate-write-all-2 : tie.Need-slice-aggregate-write-all-2
 slice-aggregate-write-all-2 c =
-    let call = c .before .before .before .before .before .sharpen-in-views in
+    let at-sharpen-in-views = c .before .before .before .before .before in
+    let call = at-sharpen-in-views .sharpen-in-views in
     omega (arith, length-append (call .last .1 .0) [], call .kept .1 .0)
 
 write-all-requires-2 : tie.Need-write-all-requires-2

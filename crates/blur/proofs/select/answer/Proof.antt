@@ -16,7 +16,8 @@ returns-2 : tie.Need-returns-2
 returns-2 c = rw (ne-eqb _ 0 (c .before .before .if1 .left), lt-ltb _ _ (c .if2 .taken)) refl
 
 float-from-bits-t5 : tie.Need-float-from-bits-t5
-float-from-bits-t5 c = let d = c .before .before .before in search (needs, d .before .before .pre (omega (arith, d .if1 .left)))
+float-from-bits-t5 c = let d = c .before .before .before in
+    search (needs, d .before .before .pre (omega (arith, d .if1 .left)))
 
 returns-3 : tie.Need-returns-3
 returns-3 c = rw (ne-eqb _ 0 (c .before .before .before .if1 .left), le-ltb _ _ (c .before .if2 .left)) refl

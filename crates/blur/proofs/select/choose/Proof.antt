@@ -1,4 +1,5 @@
--- `blur::select::choose` meets its contract. The loop's invariant: the choice among the counts from the digit on is the choice among all.
+-- `blur::select::choose` meets its contract. The loop's invariant: the choice among the counts from the digit on is the
+-- choice among all.
 use mathlib.Core.Path.{_≡_, refl, _∙_}
 use Prim.Native.Nat.{_≤_, _-_}
 use native.Mathlib.Omega.{arith}
@@ -10,7 +11,8 @@ use Rattle.blur.proofs.select.choose.Statement.{statement}
 use Rattle.blur.proofs.select.choose.Tie as tie
 
 abbrev Inv-loop : tie.InvT-loop
-Inv-loop counts place digit₀ left₀ digit left = (digit ≤ length counts) × (pickFrom (drop digit counts) digit left ≡ pickFrom counts 0 place)
+Inv-loop counts place digit₀ left₀ digit left =
+    (digit ≤ length counts) × (pickFrom (drop digit counts) digit left ≡ pickFrom counts 0 place)
 
 abbrev μ-loop : tie.MeasureT-loop
 μ-loop counts place digit₀ left₀ digit left = length counts - digit
@@ -25,7 +27,8 @@ shared-slice-read-count : tie.Need-shared-slice-read-count Inv-loop μ-loop
 shared-slice-read-count c = search needs
 
 returns : tie.Need-returns Inv-loop μ-loop
-returns c = pick-here _ _ _ (c .before .before .loop-test .taken) (c .if1 .taken) ∙ c .before .before .before .loop .inv .1
+returns c = pick-here _ _ _ (c .before .before .loop-test .taken) (c .if1 .taken)
+    ∙ c .before .before .before .loop .inv .1
 
 add-digit : tie.Need-add-digit Inv-loop μ-loop
 add-digit c = search needs
@@ -34,7 +37,11 @@ loop-less : tie.Need-loop-less Inv-loop μ-loop
 loop-less c = search needs
 
 loop-again : tie.Need-loop-again Inv-loop μ-loop
-loop-again c = (search needs, pick-next _ _ _ (c .before .before .loop-test .taken) (c .if1 .left) ∙ c .before .before .before .loop .inv .1)
+loop-again c = (
+  search needs,
+  pick-next _ _ _ (c .before .before .loop-test .taken) (c .if1 .left)
+      ∙ c .before .before .before .loop .inv .1,
+)
 
 returns-2 : tie.Need-returns-2 Inv-loop μ-loop
 returns-2 c = pick-end _ _ _ (c .loop-test .left) ∙ c .before .loop .inv .1

@@ -38,7 +38,8 @@ loop-again c =
     let n : length counts ≡ length (c .before .before .args .counts .now) = c .before .loop .inv .0 in (
       length-set counts i 0 ∙ n,
       search needs,
-      ap (λ (m : ℕ). take m (set counts i 0)) (add-one i) ∙ take-suc-set counts i 0 (omega arith) ∙ ap (_++ (0 ∷ [])) (c .before .loop .inv .2) ∙ replicate-append-replicate i 1 0,
+      ap (λ (m : ℕ). take m (set counts i 0)) (add-one i) ∙ take-suc-set counts i 0 (omega arith)
+          ∙ ap (_++ (0 ∷ [])) (c .before .loop .inv .2) ∙ replicate-append-replicate i 1 0,
     )
 
 same-length : tie.Need-same-length Inv-loop μ-loop

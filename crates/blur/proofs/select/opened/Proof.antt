@@ -18,8 +18,9 @@ reach-of-requires c κs = search needs
 
 returns : tie.Need-returns
 returns c =
-    let s = c .before .before .before .before .args .s in
-    rw (c .before .reach-of .ensures, toZ-ofZ w32 (s .strongest) (record { sfits = omega (arith, c .struct-told .given) })) refl
+    let r = c .before in
+    let s = r .before .before .before .args .s in
+    rw (r .reach-of .ensures, toZ-ofZ w32 (s .strongest) (record { sfits = omega (arith, c .struct-told .given) })) refl
 
 pub opened-spec : {M : Type 1} → statement M
 opened-spec = tie.close (tie.spec float-to-bits-low float-to-bits-high reach-of-requires returns)

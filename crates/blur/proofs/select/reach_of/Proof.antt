@@ -18,10 +18,20 @@ shr-if3-2 : tie.Need-shr-if3-2
 shr-if3-2 c = search needs
 
 returns-3 : tie.Need-returns-3
-returns-3 c = rw (eq-eqb _ 0 (c .before .before .if1 .left), ne-eqb _ 0 (c .before .if2 .left), eq-eqb _ _ (c .if3 .taken)) refl
+returns-3 c = rw (
+  eq-eqb _ 0 (c .before .before .if1 .left),
+  ne-eqb _ 0 (c .before .if2 .left),
+  eq-eqb _ _
+      (c .if3 .taken),
+) refl
 
 returns-4 : tie.Need-returns-4
-returns-4 c = rw (eq-eqb _ 0 (c .before .before .if1 .left), ne-eqb _ 0 (c .before .if2 .left), ne-eqb _ _ (c .if3 .left)) refl
+returns-4 c = rw (
+  eq-eqb _ 0 (c .before .before .if1 .left),
+  ne-eqb _ 0 (c .before .if2 .left),
+  ne-eqb _ _
+      (c .if3 .left),
+) refl
 
 pub reach-of-spec : {M : Type 1} → statement M
 reach-of-spec = tie.close (tie.spec returns returns-2 shr-if3 shr-if3-2 returns-3 returns-4)

@@ -14,11 +14,20 @@ cast-result-2 : tie.Need-cast-result-2
 cast-result-2 c = rw (toZ-ofZ w32 (c .args .swing) (c .fits .swing)) (wider (c .fits .swing))
 
 mul-result : tie.Need-mul-result
-mul-result c = rw (toZ-ofZ w32 (c .args .swing) (c .fits .swing), toZ-ofZ w64 (c .args .swing) (wider (c .fits .swing))) (twice-fits (c .fits .swing))
+mul-result c = rw (toZ-ofZ w32 (c .args .swing) (c .fits .swing), toZ-ofZ w64 (c .args .swing) (wider (c .fits .swing)))
+    (twice-fits (c .fits .swing))
 
 returns : tie.Need-returns
 returns c =
-    rw (toZ-ofZ w32 (c .args .strongest) (c .fits .strongest), toZ-ofZ w64 (c .args .strongest) (wider (c .fits .strongest)), toZ-ofZ w32 (c .args .swing) (c .fits .swing), toZ-ofZ w64 (c .args .swing) (wider (c .fits .swing)), toZ-ofZ w64 (pos 2 *ℤ c .args .swing) (twice-fits (c .fits .swing)))
+    rw (
+      toZ-ofZ w32 (c .args .strongest) (c .fits .strongest),
+      toZ-ofZ w64 (c .args .strongest)
+          (wider (c .fits .strongest)),
+      toZ-ofZ w32 (c .args .swing) (c .fits .swing),
+      toZ-ofZ w64 (c .args .swing)
+          (wider (c .fits .swing)),
+      toZ-ofZ w64 (pos 2 *ℤ c .args .swing) (twice-fits (c .fits .swing)),
+    )
     refl
 
 pub stays-spec : {M : Type 1} → statement M

@@ -1,13 +1,10 @@
--- `deblur::refusal::estimate_refusal` meets its contract. Once the layout is accepted the area is at most 2^20, so that no product wraps.
-use borrow.Author.Needs.{needs}
-use borrow.Author.Tests.{ltb-true, ltb-false}
+-- `deblur::refusal::estimate_refusal` meets its contract.
 use native.Mathlib.Omega.{arith}
-use mathlib.Core.Logic.{⊎-elim, inl, inr}
 use mathlib.Core.Path.{_≡_, sym, _∙_}
-use Rattle.image.specs.Refusal.{layoutRefusal}
-use Rattle.image.proofs.Refusal.{laid, area-most}
-use Rattle.deblur.specs.Refusal.{settingsRefusal}
-use Rattle.deblur.proofs.Refusals.{estimate-pictures, estimate-settings, estimate-10, estimate-0}
+use Rattle.image.specs.Refusal.{Laid}
+use Rattle.image.proofs.Refusal.{laid, accepted, area-most}
+use Rattle.deblur.proofs.Refusals.{estimate-pictures, estimate-lent}
+use borrow.Author.Needs.{needs}
 use Rattle.deblur.proofs.refusal.estimate_refusal.Statement.{statement}
 use Rattle.deblur.proofs.refusal.estimate_refusal.Tie as tie
 
@@ -19,39 +16,27 @@ returns c =
     let e = c .before .layout-refusal .ensures in
     e ∙ sym (estimate-pictures _ _ _ _ _ _ _ (λ z. c .if1 .taken (e ∙ z)))
 
-layout-taken : (c : tie.Else1) → let a = c .before .before .args in layoutRefusal (a .len) (a .width) (a .height) (a .stride) ≡ 0
-layout-taken c = sym (c .before .layout-refusal .ensures) ∙ c .if1 .left
+source : (c : tie.Else1) → let a = c .before .before .args in Laid (a .len) (a .width) (a .height) (a .stride)
+source c = laid (sym (c .before .layout-refusal .ensures) ∙ c .if1 .left)
 
-settings-refusal-requires : tie.Need-settings-refusal-requires
-settings-refusal-requires c κs = search needs
+mul-dst-short : tie.Need-mul-dst-short
+mul-dst-short c = omega (arith, area-most (source c))
+
+scratch-needed-requires : tie.Need-scratch-needed-requires
+scratch-needed-requires c κs = let l = source c in (l .width-most, l .height-most)
+
+lent-refusal-requires : tie.Need-lent-refusal-requires
+lent-refusal-requires c κs = search needs
+
+first-refusal-requires : tie.Need-first-refusal-requires
+first-refusal-requires c κs = search needs
 
 returns-2 : tie.Need-returns-2
 returns-2 c =
-    let e = c .before .settings-refusal .ensures in
-    e ∙ sym (estimate-settings _ _ _ _ _ _ _ (layout-taken (c .before .before)) (λ z. c .if2 .taken (e ∙ z)))
-
-settings-taken : (c : tie.Else2) → let a = c .before .before .before .before .args in settingsRefusal (a .width) (a .height) (a .settings) ≡ 0
-settings-taken c = sym (c .before .settings-refusal .ensures) ∙ c .if2 .left
-
-mul-if3 : tie.Need-mul-if3
-mul-if3 c = omega (arith, area-most (laid (layout-taken (c .before .before))))
-
-mul-if4 : tie.Need-mul-if4
-mul-if4 c = search needs
-
-mul-if4-2 : tie.Need-mul-if4-2
-mul-if4-2 c = omega (arith, area-most (laid (layout-taken (c .before .before .before))))
-
-returns-3 : tie.Need-returns-3
-returns-3 c =
-    sym
-    (estimate-10 _ _ _ _ _ _ _ (layout-taken (c .before .before .before)) (settings-taken (c .before))
-    (⊎-elim (λ w. inl (w .taken)) (λ w. inr (ltb-true _ _ (w .1 .taken))) (c .if3 .came)))
-
-returns-4 : tie.Need-returns-4
-returns-4 c =
-    sym
-    (estimate-0 _ _ _ _ _ _ _ (layout-taken (c .before .before .before .before)) (settings-taken (c .before .before)) (c .before .if3 .left) (ltb-false _ _ (c .if4 .left)))
+    let lent = c .before in
+    let needed = lent .before in
+    rw (lent .lent-refusal .ensures, needed .scratch-needed .ensures) at (c .first-refusal .ensures)
+    ∙ sym (estimate-lent _ _ _ _ _ _ _ (accepted (source (needed .before))))
 
 pub estimate-refusal-spec : {M : Type 1} → statement M
 estimate-refusal-spec =
@@ -59,10 +44,8 @@ estimate-refusal-spec =
     (tie.spec
     layout-refusal-requires
     returns
-    settings-refusal-requires
-    returns-2
-    mul-if3
-    mul-if4
-    mul-if4-2
-    returns-3
-    returns-4)
+    mul-dst-short
+    scratch-needed-requires
+    lent-refusal-requires
+    first-refusal-requires
+    returns-2)

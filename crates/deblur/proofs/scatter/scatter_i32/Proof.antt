@@ -30,7 +30,8 @@ shared-slice-copy-out-dst : tie.Need-shared-slice-copy-out-dst Inv-loop μ-loop
 shared-slice-copy-out-dst c = omega arith
 
 -- the place that is written
-place : (c : tie.After-dst Inv-loop μ-loop) → let a = c .before .before .before .args in a .start + c .before .before .loop .i * a .step < length (a .dst .now)
+place : (c : tie.After-dst Inv-loop μ-loop)
+    → let a = c .before .before .before .args in a .start + c .before .before .loop .i * a .step < length (a .dst .now)
 place c = place-in (c .before .before .before .pre) (c .before .loop-test .taken)
 
 mul-t12 : tie.Need-mul-t12 Inv-loop μ-loop
@@ -55,7 +56,9 @@ loop-again : tie.Need-loop-again Inv-loop μ-loop
 loop-again c =
     let s = c .before .before .before in (
       omega arith,
-      scatter-next (λ v. v) (s .args .n) (s .args .scratch .now) (s .args .start) (s .args .step) (s .pre) (c .before .loop-test .taken) _ (toZ-ofZ w32 _ (record { sfits = c .dst .given })) (c .before .before .loop .inv .1),
+      scatter-next (λ v. v) (s .args .n) (s .args .scratch .now) (s .args .start) (s .args .step) (s .pre)
+          (c .before .loop-test .taken) _ (toZ-ofZ w32 _ (record { sfits = c .dst .given }))
+          (c .before .before .loop .inv .1),
     )
 
 same-length : tie.Need-same-length Inv-loop μ-loop

@@ -20,7 +20,8 @@ abbrev μ-loop : tie.MeasureT-loop
 μ-loop scratch n dst₀ start step i₀ dst i = n - i
 
 loop-holds : tie.Need-loop-holds Inv-loop μ-loop
-loop-holds c = let a = c .before .args in (omega arith, scatter-none clampByte (a .n) (a .scratch .now) (a .start) (a .step))
+loop-holds c = let a = c .before .args in
+    (omega arith, scatter-none clampByte (a .n) (a .scratch .now) (a .start) (a .step))
 
 add-clamp-u8 : tie.Need-add-clamp-u8 Inv-loop μ-loop
 add-clamp-u8 c = omega arith
@@ -35,8 +36,12 @@ clamp-u8-requires : tie.Need-clamp-u8-requires Inv-loop μ-loop
 clamp-u8-requires c κs = search needs
 
 -- the place that is written
-place : (c : tie.After-clamp-u8 Inv-loop μ-loop) → let a = c .before .before .before .before .before .args in a .start + c .before .before .before .loop .i * a .step < length (a .dst .now)
-place c = place-in (c .before .before .before .before .before .pre) (c .before .before .loop-test .taken)
+place : (c : tie.After-clamp-u8 Inv-loop μ-loop)
+    → let a = c .before .before .before .before .before .args in a .start + c .before .before .before .loop .i * a .step
+    < length (a .dst .now)
+place c =
+    let start = c .before .before .before .before .before in
+    place-in (start .pre) (c .before .before .loop-test .taken)
 
 mul-dst : tie.Need-mul-dst Inv-loop μ-loop
 mul-dst c = omega (arith, place c)
@@ -59,7 +64,8 @@ loop-again c =
     let y = lineAt (s .args .n) (s .args .scratch .now) (c .before .before .before .loop .i) in
     let e : toZ w32 (ofZ w32 y) ≡ y = toZ-ofZ w32 y (record { sfits = c .before .clamp-u8-arg .given }) in (
       omega arith,
-      scatter-next clampByte (s .args .n) (s .args .scratch .now) (s .args .start) (s .args .step) (s .pre) (c .before .before .loop-test .taken) _
+      scatter-next clampByte (s .args .n) (s .args .scratch .now) (s .args .start) (s .args .step) (s .pre)
+          (c .before .before .loop-test .taken) _
           (c .clamp-u8 .ensures ∙ ap clampByte e)
           (c .before .before .before .loop .inv .1),
     )
@@ -68,7 +74,8 @@ same-length : tie.Need-same-length Inv-loop μ-loop
 same-length c = c .before .loop .inv .1 .same-length
 
 returns : tie.Need-returns Inv-loop μ-loop
-returns c = let e : c .before .loop .i ≡ c .before .before .before .args .n = omega arith in rw e at (c .before .loop .inv .1)
+returns c = let e : c .before .loop .i ≡ c .before .before .before .args .n = omega arith in rw e at
+    (c .before .loop .inv .1)
 
 pub scatter-u8-spec : {M : Type 1} → statement M
 scatter-u8-spec =

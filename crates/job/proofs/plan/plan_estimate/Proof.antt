@@ -29,7 +29,8 @@ returns c =
     let known = c .before .before .before in
     let odd = known .before .before in
     let a = odd .before .args in
-    plan-12 (a .width) (a .height) (a .direction) (a .estimate) _ (sym (odd .odd-length .ensures) ∙ known .length .given .1) (c .before .if1 .taken) (c .if2 .taken)
+    plan-12 (a .width) (a .height) (a .direction) (a .estimate) _
+    (sym (odd .odd-length .ensures) ∙ known .length .given .1) (c .before .if1 .taken) (c .if2 .taken)
 
 enum-told : tie.Need-enum-told
 enum-told c = search needs
@@ -39,20 +40,23 @@ returns-2 c =
     let known = c .before .before .before in
     let odd = known .before .before in
     let a = odd .before .args in
-    plan-fits (a .width) (a .height) (a .direction) (a .estimate) _ (sym (odd .odd-length .ensures) ∙ known .length .given .1) (inr (c .if2 .left))
+    plan-fits (a .width) (a .height) (a .direction) (a .estimate) _
+    (sym (odd .odd-length .ensures) ∙ known .length .given .1) (inr (c .if2 .left))
 
 returns-3 : tie.Need-returns-3
 returns-3 c =
     let known = c .before .before in
     let odd = known .before .before in
     let a = odd .before .args in
-    plan-fits (a .width) (a .height) (a .direction) (a .estimate) _ (sym (odd .odd-length .ensures) ∙ known .length .given .1) (inl (c .if1 .left))
+    plan-fits (a .width) (a .height) (a .direction) (a .estimate) _
+    (sym (odd .odd-length .ensures) ∙ known .length .given .1) (inl (c .if1 .left))
 
 returns-4 : tie.Need-returns-4
 returns-4 c =
     let odd = c .before .before in
     let a = odd .before .args in
-    plan-beyond (a .width) (a .height) (a .direction) (a .estimate) (sym (odd .odd-length .ensures) ∙ c .enum-told .given .1)
+    plan-beyond (a .width) (a .height) (a .direction) (a .estimate)
+    (sym (odd .odd-length .ensures) ∙ c .enum-told .given .1)
 
 pub plan-estimate-spec : {M : Type 1} → statement M
 plan-estimate-spec =

@@ -1,11 +1,14 @@
 -- `job::plan::plan_job` meets its contract.
 use borrow.Author.Needs.{needs}
+use Rattle.job.specs.Parts.{lengthIn}
 use Rattle.job.proofs.Plans.{plan-refused, plan-found}
 use Rattle.job.proofs.plan.plan_job.Statement.{statement}
 use Rattle.job.proofs.plan.plan_job.Tie as tie
 
 returns : tie.Need-returns
-returns c = plan-refused _ _ _ _ _ (c .if1 .taken)
+returns c =
+    let a = c .before .args in
+    plan-refused (a .width) (a .height) (a .start .direction) _ (lengthIn (a .measured)) (c .if1 .taken)
 
 enum-known-measured : tie.Need-enum-known-measured
 enum-known-measured c = search needs
@@ -28,7 +31,8 @@ returns-2 : tie.Need-returns-2
 returns-2 c =
     let found = c .before .before in
     let known = found .before .before .before in
-    plan-found _ _ _ (known .before .before .if1 .left) (known .measured .given .1) (found .found .given .1) (c .plan-estimate .ensures)
+    plan-found _ _ _ (known .before .before .if1 .left) (known .measured .given .1) (found .found .given .1)
+    (c .plan-estimate .ensures)
 
 returns-3 : tie.Need-returns-3
 returns-3 c = search needs

@@ -24,13 +24,15 @@ returns-2 : tie.Need-returns-2
 returns-2 c =
     let d = c .before .before .before in
     let s = d .before in
-    start-direction _ _ (s .before .job-refusal .ensures) (s .if1 .left) _ (sym (d .estimate-line-direction .ensures) ∙ c .before .e .given .1)
+    start-direction _ _ (s .before .job-refusal .ensures) (s .if1 .left) _
+    (sym (d .estimate-line-direction .ensures) ∙ c .before .e .given .1)
 
 returns-3 : tie.Need-returns-3
 returns-3 c =
     let d = c .before .before in
     let s = d .before in
-    absurd (not-refused _ _ (s .before .job-refusal .ensures) (s .if1 .left) _ (sym (d .estimate-line-direction .ensures) ∙ c .enum-told .given .1))
+    absurd (not-refused _ _ (s .before .job-refusal .ensures) (s .if1 .left) _
+    (sym (d .estimate-line-direction .ensures) ∙ c .enum-told .given .1))
 
 pub start-job-spec : {M : Type 1} → statement M
 start-job-spec =

@@ -16,7 +16,8 @@ use Rattle.line.proofs.kernel.gather.Tie as tie
 
 abbrev Inv-loop : tie.InvT-loop
 Inv-loop «data» start step n scratch₀ i₀ scratch i =
-    (i ≤ n) × (length scratch ≡ length scratch₀) × Filled 0 i (bytesOn «data» start step) scratch × Filled n i (bytesOn «data» start step) scratch
+    (i ≤ n) × (length scratch ≡ length scratch₀)
+    × Filled 0 i (bytesOn «data» start step) scratch × Filled n i (bytesOn «data» start step) scratch
 
 abbrev μ-loop : tie.MeasureT-loop
 μ-loop «data» start step n scratch₀ i₀ scratch i = n - i
@@ -24,8 +25,12 @@ abbrev μ-loop : tie.MeasureT-loop
 loop-holds : tie.Need-loop-holds Inv-loop μ-loop
 loop-holds c = (omega arith, refl, filled-none, filled-none)
 
-within : (c : tie.In-loop Inv-loop μ-loop) → c .before .before .before .args .start + c .before .loop .i * c .before .before .before .args .step < length (c .before .before .before .args .«data» .now)
-within c = byte-within _ _ _ _ _ (c .loop-test .taken) (c .before .before .before .pre .reached)
+abbrev start : tie.In-loop Inv-loop μ-loop → tie.Start Inv-loop μ-loop
+start c = c .before .before .before
+
+within : (c : tie.In-loop Inv-loop μ-loop)
+    → start c .args .start + c .before .loop .i * start c .args .step < length (start c .args .«data» .now)
+within c = byte-within _ _ _ _ _ (c .loop-test .taken) (start c .pre .reached)
 
 mul-widen-u8 : tie.Need-mul-widen-u8 Inv-loop μ-loop
 mul-widen-u8 c = omega (arith, within c)
@@ -40,19 +45,19 @@ widen-u8-requires : tie.Need-widen-u8-requires Inv-loop μ-loop
 widen-u8-requires c κs = tt
 
 mul-v : tie.Need-mul-v Inv-loop μ-loop
-mul-v c = omega (arith, c .before .before .before .before .before .pre)
+mul-v c = omega (arith, start (c .before .before) .pre)
 
 slice-set-from-v : tie.Need-slice-set-from-v Inv-loop μ-loop
-slice-set-from-v c = omega (arith, c .before .before .before .before .before .pre)
+slice-set-from-v c = omega (arith, start (c .before .before) .pre)
 
 add-v : tie.Need-add-v Inv-loop μ-loop
-add-v c = omega (arith, c .before .before .before .before .before .pre)
+add-v c = omega (arith, start (c .before .before) .pre)
 
 mul-v-2 : tie.Need-mul-v-2 Inv-loop μ-loop
-mul-v-2 c = omega (arith, c .before .before .before .before .before .pre)
+mul-v-2 c = omega (arith, start (c .before .before) .pre)
 
 slice-set-from-v-2 : tie.Need-slice-set-from-v-2 Inv-loop μ-loop
-slice-set-from-v-2 c = simp length-set (omega (arith, c .before .before .before .before .before .pre))
+slice-set-from-v-2 c = simp length-set (omega (arith, start (c .before .before) .pre))
 
 add-i : tie.Need-add-i Inv-loop μ-loop
 add-i c = omega arith
@@ -62,18 +67,26 @@ loop-less c = omega arith
 
 loop-again : tie.Need-loop-again Inv-loop μ-loop
 loop-again c =
-    let s = c .before .before .before .before .before in
+    let s = start (c .before .before) in
     let l = c .before .before .before .loop in
+    let i = l .i in
+    let n = s .args .n in
     let v = toZ w32 (ofZ w32 (c .widen-u8 .result)) in
-    let e : v ≡ bytesOn (s .args .«data» .now) (s .args .start) (s .args .step) (l .i) = told (record { sfits = c .widen-u8 .ok }) (c .widen-u8 .ensures) in
-    let in-first : l .i < length (l .scratch) = omega (arith, s .pre) in
-    let in-second : s .args .n + l .i < length (set (l .scratch) (l .i) v) = simp length-set (omega (arith, s .pre)) in (
+    let e : v ≡ bytesOn (s .args .«data» .now) (s .args .start) (s .args .step) i =
+    told (record { sfits = c .widen-u8 .ok }) (c .widen-u8 .ensures)
+    in
+    let once = set (l .scratch) i v in
+    let in-first : i < length (l .scratch) = omega (arith, s .pre) in
+    let in-second : n + i < length once = simp length-set (omega (arith, s .pre)) in
+    let observed = filled-other (l .inv .2) i v (λ j h q. omega arith) in
+    let estimate = filled-other (l .inv .3) i v (λ j h q. omega (arith, s .pre)) in (
       omega arith,
       simp length-set (l .inv .1),
-      filled-next (filled-other (filled-other (l .inv .2) (l .i) v (λ j h q. omega arith)) (s .args .n + l .i) v (λ j h q. omega arith))
-          (getD-set-other (set (l .scratch) (l .i) v) (s .args .n + l .i) (0 + l .i) v (pos 0) (λ q. omega (arith, s .pre)) ∙ rw (zero-add (l .i)) (getD-set-same (l .scratch) (l .i) v (pos 0) in-first ∙ e)),
-      filled-next (filled-other (filled-other (l .inv .3) (l .i) v (λ j h q. omega (arith, s .pre))) (s .args .n + l .i) v (λ j h q. omega arith))
-          (getD-set-same (set (l .scratch) (l .i) v) (s .args .n + l .i) v (pos 0) in-second ∙ e),
+      filled-next (filled-other observed (n + i) v (λ j h q. omega arith))
+          (getD-set-other once (n + i) (0 + i) v (pos 0) (λ q. omega (arith, s .pre))
+          ∙ rw (zero-add i) (getD-set-same (l .scratch) i v (pos 0) in-first ∙ e)),
+      filled-next (filled-other estimate (n + i) v (λ j h q. omega arith))
+          (getD-set-same once (n + i) v (pos 0) in-second ∙ e),
     )
 
 same-length : tie.Need-same-length Inv-loop μ-loop
@@ -82,7 +95,10 @@ same-length c = c .before .loop .inv .1
 returns : tie.Need-returns Inv-loop μ-loop
 returns c =
     let e : c .before .loop .i ≡ c .before .before .before .args .n = omega arith in
-    record { observed = (rw e at (c .before .loop .inv .2)) .holds; estimate = (rw e at (c .before .loop .inv .3)) .holds }
+    record {
+      observed = (rw e at (c .before .loop .inv .2)) .holds;
+      estimate = (rw e at (c .before .loop .inv .3)) .holds;
+    }
 
 pub gather-spec : {M : Type 1} → statement M
 gather-spec =

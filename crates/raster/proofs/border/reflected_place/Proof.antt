@@ -38,7 +38,8 @@ returns-2 c =
 sub-result : tie.Need-sub-result
 sub-result c =
     let s = c .before .before .before in
-    omega (arith, c .before .rem-euclid .ensures, modℤ-lt (place s) (2 * s .args .length - 2) (omega (arith, more (c .before .before))))
+    let m = more (c .before .before) in
+    omega (arith, c .before .rem-euclid .ensures, modℤ-lt (place s) (2 * s .args .length - 2) (omega (arith, m)))
 
 returns-3 : tie.Need-returns-3
 returns-3 c =

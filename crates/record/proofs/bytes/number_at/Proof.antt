@@ -1,11 +1,12 @@
--- `record::bytes::number_at` meets its contract. The invariant: the value is that of the bytes passed, which are the highest ones.
+-- `record::bytes::number_at` meets its contract. The invariant: the value is that of the bytes passed, which are the
+-- highest ones.
 use Prim.Native.Nat.{suc, _+_, _-_, _*_, _^_, _≤_, _<_}
 use mathlib.Core.Path.{_≡_, refl}
 use native.Mathlib.Nat.{le-refl, sub-self, sub-zero, zero-lt-suc, add-zero, pow-succ'}
 use native.Mathlib.Omega.{arith}
 use lib.ListN.{getD}
 use Rattle.record.specs.Bytes.{littleEndian, numberAt}
-use Rattle.record.proofs.LittleEndian.{turn-is, turn-lt, within-word}
+use Rattle.record.proofs.LittleEndian.{number-turn, within-word}
 use Rattle.record.proofs.bytes.number_at.Statement.{statement}
 use Rattle.record.proofs.bytes.number_at.Tie as tie
 
@@ -36,7 +37,8 @@ shared-slice-read-value c = omega arith
 
 -- a turn adds the byte in front
 module _ (c : tie.After-shared-slice-known Inv-loop μ-loop) where
-  byte : let a = c .before .before .before .args in getD (a .bytes .now) (a .at + (c .before .before .loop .left - 1)) 0 < 256
+  byte : let a =
+      c .before .before .before .args in getD (a .bytes .now) (a .at + (c .before .before .loop .left - 1)) 0 < 256
   byte = c .shared-slice-known .given (c .before .before .before .args .at + (c .before .before .loop .left - 1)) .fits
 
   turn :
@@ -46,10 +48,9 @@ module _ (c : tie.After-shared-slice-known Inv-loop μ-loop) where
       (v ≡ numberAt (a .bytes .now) (a .at + k) (a .count - k)) × (v < 256 ^ (a .count - k))
   turn =
       let a = c .before .before .before .args in
-      let l = c .before .before .loop in (
-        turn-is (a .bytes .now) (a .at) (a .count) (l .left) (l .value) (omega arith) (omega arith) (omega arith) byte (l .inv .1),
-        turn-lt (a .bytes .now) (a .at) (a .count) (l .left) (l .value) (omega arith) (omega arith) (omega arith) byte (l .inv .2),
-      )
+      let l = c .before .before .loop in
+      number-turn (a .bytes .now) (a .at) (a .count) (l .left) (l .value) (omega arith) (omega arith) (omega arith) byte
+      (l .inv .1) (l .inv .2)
 
 cast-value : tie.Need-cast-value Inv-loop μ-loop
 cast-value c = omega (arith, byte c)
@@ -68,7 +69,8 @@ loop-again c = (omega arith, turn c .0, turn c .1)
 returns : tie.Need-returns Inv-loop μ-loop
 returns c =
     let e : c .before .loop .left ≡ 0 = omega arith in
-    let i = rw (e, add-zero (c .before .before .args .at), sub-zero (c .before .before .args .count)) at (c .before .loop .inv) in
+    let a = c .before .before .args in
+    let i = rw (e, add-zero (a .at), sub-zero (a .count)) at (c .before .loop .inv) in
     (i .1, i .2)
 
 pub number-at-spec : {M : Type 1} → statement M

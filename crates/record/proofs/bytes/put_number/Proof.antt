@@ -38,12 +38,13 @@ loop-less : tie.Need-loop-less Inv-loop μ-loop
 loop-less c = omega arith
 
 loop-again : tie.Need-loop-again Inv-loop μ-loop
-loop-again c = (
-  omega arith,
-  simp length-set (omega arith),
-  put-turn (c .before .loop .bytes) (c .before .before .args .at) (c .before .before .args .count) (c .before .loop .done) (c .before .loop .rest) (c .loop-test .taken)
-      ∙ c .before .loop .inv .2,
-)
+loop-again c =
+    let a = c .before .before .args in
+    let l = c .before .loop in (
+      omega arith,
+      simp length-set (omega arith),
+      put-turn (l .bytes) (a .at) (a .count) (l .done) (l .rest) (c .loop-test .taken) ∙ l .inv .2,
+    )
 
 same-length : tie.Need-same-length Inv-loop μ-loop
 same-length c = c .before .loop .inv .1

@@ -28,11 +28,7 @@ same-length c = search needs
 
 returns : tie.Need-returns
 unfolding countBytes bytesOf
-returns c =
-    let third = c .before .before in
-    let second = third .before .before .before .before .before in
-    let first = second .before .before .before .before .before in
-    rw (third .put-number3 .ensures, second .put-number2 .ensures, first .put-number .ensures)
+returns c = cc
 
 pub put-counts-spec : {M : Type 1} → statement M
 put-counts-spec =

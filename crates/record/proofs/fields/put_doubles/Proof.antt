@@ -16,10 +16,7 @@ same-length c = search needs
 
 returns : tie.Need-returns
 unfolding doubleBytes bytesOf
-returns c =
-    let second = c .before .before in
-    let first = second .before .before .before .before in
-    rw (second .put-number2 .ensures, first .put-number .ensures)
+returns c = cc
 
 pub put-doubles-spec : {M : Type 1} → statement M
 put-doubles-spec =

@@ -22,12 +22,14 @@ returns : tie.Need-returns
 unfolding encoded bytesOf
 returns c =
     let third = c .before .before in
-    let second = third .before .before .before .before in
-    let first = second .before .before .before .before in
+    let called-2 = third .before .before in
+    let second = called-2 .before .before in
+    let called = second .before .before in
+    let first = called .before .before in
     let start = first .before .before .before in
-    rw (third .put-doubles .ensures, second .put-counts .ensures, first .put-head .ensures) (stored-whole (start .args .fields) (start .args .bytes .now) (start .pre))
+    rw (third .put-doubles .ensures, second .put-counts .ensures, first .put-head .ensures)
+    (stored-whole (start .args .fields) (start .args .bytes .now) (start .pre))
 
 pub put-fields-spec : {M : Type 1} → statement M
 put-fields-spec =
-    tie.close
-    (tie.spec put-head-requires put-counts-requires put-doubles-requires same-length returns)
+    tie.close (tie.spec put-head-requires put-counts-requires put-doubles-requires same-length returns)

@@ -36,10 +36,7 @@ same-length c = simp length-set (omega arith)
 
 returns : tie.Need-returns
 unfolding headBytes bytesOf
-returns c =
-    let second = c .before .before in
-    let first = second .before .before .before .before .before in
-    rw (second .put-number2 .ensures, first .put-number .ensures)
+returns c = cc
 
 pub put-head-spec : {M : Type 1} → statement M
 put-head-spec =

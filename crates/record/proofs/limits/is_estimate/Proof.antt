@@ -10,13 +10,15 @@ is-finite-bits-requires : tie.Need-is-finite-bits-requires
 is-finite-bits-requires c κs = search needs
 
 float-from-bits-result : tie.Need-float-from-bits-result
-float-from-bits-result c = finite-pattern (c .before .before .args .bits) (sym (c .before .is-finite-bits .ensures) ∙ c .if1 .taken)
+float-from-bits-result c =
+    finite-pattern (c .before .before .args .bits) (sym (c .before .is-finite-bits .ensures) ∙ c .if1 .taken)
 
 returns : tie.Need-returns
 returns c = rw (sym (c .before .is-finite-bits .ensures) ∙ c .if1 .taken)
 
 returns-2 : tie.Need-returns-2
-returns-2 c = sym (estimate-refused (c .before .before .args .bits) (sym (c .before .is-finite-bits .ensures) ∙ c .if1 .left))
+returns-2 c =
+    sym (estimate-refused (c .before .before .args .bits) (sym (c .before .is-finite-bits .ensures) ∙ c .if1 .left))
 
 pub is-estimate-spec : {M : Type 1} → statement M
 is-estimate-spec = tie.close (tie.spec is-finite-bits-requires float-from-bits-result returns returns-2)

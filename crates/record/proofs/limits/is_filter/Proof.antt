@@ -1,30 +1,74 @@
 -- `record::limits::is_filter` meets its contract.
 use borrow.Author.Needs.{needs}
-use mathlib.Core.Path.{sym, _∙_}
-use Rattle.record.proofs.Legal.{filter-restoration, filter-unsharp, filter-binomial, filter-unknown}
+use Rattle.record.specs.Fields.{filterLegal}
 use Rattle.record.proofs.limits.is_filter.Statement.{statement}
 use Rattle.record.proofs.limits.is_filter.Tie as tie
 
-is-restoration-requires : tie.Need-is-restoration-requires
-is-restoration-requires c κs = search needs
+enum-told : tie.Need-enum-told
+enum-told c = search needs
 
-is-unsharp-requires : tie.Need-is-unsharp-requires
-is-unsharp-requires c κs = search needs
+is-iterated-requires : tie.Need-is-iterated-requires
+is-iterated-requires c κs = search needs
 
-is-binomial-requires : tie.Need-is-binomial-requires
-is-binomial-requires c κs = search needs
+is-unmeasured-requires : tie.Need-is-unmeasured-requires
+is-unmeasured-requires c κs = search needs
+
+enum-told-2 : tie.Need-enum-told-2
+enum-told-2 c = search needs
+
+is-iterated-requires-2 : tie.Need-is-iterated-requires-2
+is-iterated-requires-2 c κs = search needs
+
+is-length-requires : tie.Need-is-length-requires
+is-length-requires c κs = search needs
+
+enum-told-3 : tie.Need-enum-told-3
+enum-told-3 c = search needs
+
+is-line-requires : tie.Need-is-line-requires
+is-line-requires c κs = search needs
+
+is-length-requires-2 : tie.Need-is-length-requires-2
+is-length-requires-2 c κs = search needs
+
+enum-told-4 : tie.Need-enum-told-4
+enum-told-4 c = search needs
+
+is-unmeasured-requires-2 : tie.Need-is-unmeasured-requires-2
+is-unmeasured-requires-2 c κs = search needs
 
 returns : tie.Need-returns
-returns c = c .is-restoration .ensures ∙ sym (filter-restoration _ (c .before .match .keys1))
+unfolding filterLegal
+returns c = rw (c .before .before .enum-told .given .1) cc
 
 returns-2 : tie.Need-returns-2
-returns-2 c = c .is-unsharp .ensures ∙ sym (filter-unsharp _ (c .before .match .keys2))
+unfolding filterLegal
+returns-2 c = rw (c .before .before .enum-told2 .given .1) cc
 
 returns-3 : tie.Need-returns-3
-returns-3 c = c .is-binomial .ensures ∙ sym (filter-binomial _ (c .before .match .keys3))
+unfolding filterLegal
+returns-3 c = let length = c .before .before in rw (length .before .before .enum-told3 .given .1) cc
 
 returns-4 : tie.Need-returns-4
-returns-4 c = sym (filter-unknown _ (c .match .rest .0 .0 .1) (c .match .rest .0 .1) (c .match .rest .1))
+unfolding filterLegal
+returns-4 c = let read = c .before .before .before in rw (read .before .before .enum-told4 .given .1) cc
 
 pub is-filter-spec : {M : Type 1} → statement M
-is-filter-spec = tie.close (tie.spec is-restoration-requires is-unsharp-requires is-binomial-requires returns returns-2 returns-3 returns-4)
+is-filter-spec =
+    tie.close
+    (tie.spec
+    enum-told
+    is-iterated-requires
+    is-unmeasured-requires
+    enum-told-2
+    is-iterated-requires-2
+    is-length-requires
+    enum-told-3
+    is-line-requires
+    is-length-requires-2
+    enum-told-4
+    is-unmeasured-requires-2
+    returns
+    returns-2
+    returns-3
+    returns-4)

@@ -4,8 +4,8 @@ use Rattle.record.specs.Fields.{lineLegal}
 use Rattle.record.proofs.limits.is_line.Statement.{statement}
 use Rattle.record.proofs.limits.is_line.Tie as tie
 
-is-border-requires : tie.Need-is-border-requires
-is-border-requires c κs = search needs
+is-code-requires : tie.Need-is-code-requires
+is-code-requires c κs = search needs
 
 is-finite-bits-requires : tie.Need-is-finite-bits-requires
 is-finite-bits-requires c κs = search needs
@@ -18,4 +18,4 @@ unfolding lineLegal
 returns c = cc
 
 pub is-line-spec : {M : Type 1} → statement M
-is-line-spec = tie.close (tie.spec is-border-requires is-finite-bits-requires is-estimate-requires returns)
+is-line-spec = tie.close (tie.spec is-code-requires is-finite-bits-requires is-estimate-requires returns)

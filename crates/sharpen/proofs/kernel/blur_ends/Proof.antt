@@ -1,12 +1,11 @@
 -- `sharpen::kernel::blur_ends` meets its contract: the columns from the start up to x are written.
-use Prim.Native.Nat.{_-_, _≤_}
+use Prim.Native.Nat.{_+_, _-_, _≤_}
 use native.Mathlib.Omega.{arith}
 use mathlib.Core.Path.{_≡_}
 use Rattle.numbers.specs.Written.{Written, part}
-use Rattle.numbers.proofs.Places.{part-none}
+use Rattle.numbers.proofs.Places.{part-none, part-last}
 use Rattle.numbers.proofs.Written.{written-none, written-set}
 use Rattle.sharpen.specs.Passes.{sumAt}
-use Rattle.sharpen.proofs.Places.{part-up-to}
 use Rattle.sharpen.proofs.kernel.blur_ends.Statement.{statement}
 use Rattle.sharpen.proofs.kernel.blur_ends.Tie as tie
 
@@ -40,16 +39,20 @@ loop-less c = omega arith
 
 loop-again : tie.Need-loop-again Inv-loop μ-loop
 loop-again c =
+    let start = c .before .before .before .before .before in
     let k = c .before .before .loop in
-    (omega arith, omega arith, written-set (k .x) _ (k .inv .2) (omega arith) (c .column-sum .ensures) (part-up-to _ (k .x) (k .inv .0)))
+    let a = start .args .start in
+    let on = part-last a (k .x - a) (k .x) (k .x + 1 - a) (omega arith) (omega arith) in
+    (omega arith, omega arith, written-set (k .x) _ (k .inv .2) (omega arith) (c .column-sum .ensures) on)
 
 same-length : tie.Need-same-length Inv-loop μ-loop
 same-length c = c .before .loop .inv .2 .same-length
 
 returns : tie.Need-returns Inv-loop μ-loop
 returns c =
+    let start = c .before .before .before .before in
     let k = c .before .loop in
-    let e : k .x ≡ c .before .before .before .before .args .end = omega arith in
+    let e : k .x ≡ start .args .end = omega arith in
     rw e at (k .inv .2)
 
 pub blur-ends-spec : {M : Type 1} → statement M

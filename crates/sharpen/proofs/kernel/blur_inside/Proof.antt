@@ -64,7 +64,8 @@ loop-less c = omega arith
 
 loop-again : tie.Need-loop-again Inv-loop μ-loop
 loop-again c =
-    let k = c .before .before .before .before .before .before .before .loop in
+    let turn = c .before .before .before .before .before .before .before in
+    let k = turn .loop in
     (omega arith, written-set (k .x) _ (k .inv .1) (omega arith) (c .weigh-bytes .ensures) (front-next (k .x)))
 
 same-length : tie.Need-same-length Inv-loop μ-loop
@@ -72,8 +73,9 @@ same-length c = c .before .loop .inv .1 .same-length
 
 returns : tie.Need-returns Inv-loop μ-loop
 returns c =
+    let start = c .before .before .before .before in
     let k = c .before .loop in
-    let e : k .x ≡ length (c .before .before .before .before .args .out .now) = omega arith in
+    let e : k .x ≡ length (start .args .out .now) = omega arith in
     rw e at (k .inv .1)
 
 pub blur-inside-spec : {M : Type 1} → statement M

@@ -15,7 +15,8 @@ same-length : tie.Need-same-length
 same-length c = search needs
 
 returns : tie.Need-returns
-returns c = written-same (rw sub-zero at (c .before .before .blur-ends .ensures)) (λ j _. part-front _ j) (λ j _ _. refl)
+returns c =
+    written-same (rw sub-zero at (c .before .before .blur-ends .ensures)) (λ j _. part-front _ j) (λ j _ _. refl)
 
 sub-end : tie.Need-sub-end
 sub-end c = search needs
@@ -43,10 +44,12 @@ same-length-2 c = search needs
 
 returns-2 : tie.Need-returns-2
 returns-2 c =
+    let at-blur-inside = c .before .before .before .before .before .before in
+    let at-blur-ends2 = at-blur-inside .before .before .before .before in
     let t = c .before .before .before .before .before .before .before .before .before .before .before .before in
     let s = t .before .before .before in
     row-written (s .args .row .now) _ _ _ _ (t .if1 .left) (s .pre .0)
-    (c .before .before .before .before .before .before .before .before .before .before .blur-ends2 .ensures) (c .before .before .before .before .before .before .blur-inside .ensures) (c .before .before .blur-ends3 .ensures)
+    (at-blur-ends2 .blur-ends2 .ensures) (at-blur-inside .blur-inside .ensures) (c .before .before .blur-ends3 .ensures)
 
 pub blur-row-spec : {M : Type 1} → statement M
 blur-row-spec =

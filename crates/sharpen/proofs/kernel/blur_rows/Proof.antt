@@ -25,13 +25,21 @@ loop-holds c = (omega arith, written-none (λ j _. pixels-none _ _ j))
 
 -- the row's places in the source and in the scratch
 module _ (c : tie.In-loop Inv-loop μ-loop) where
-  src-end : let a = c .before .before .before .before .args in c .before .loop .y * a .stride + a .width ≤ length (a .«data» .now)
+  src-end : let a =
+      c .before .before .before .before .args in c .before .loop .y * a .stride + a .width ≤ length (a .«data» .now)
   src-end = row-within (c .before .before .before .before .pre .0) _ (c .loop-test .taken)
 
-  scratch-end : let a = c .before .before .before .before .args in c .before .loop .y * a .width + a .width ≤ length (c .before .loop .scratch)
+  scratch-end : let a = c .before .before .before .before .args in c .before .loop .y * a .width + a .width ≤ length
+      (c .before .loop .scratch)
   scratch-end =
       let a = c .before .before .before .before .args in
-      omega (arith, row-end-within (a .width) (a .height) (c .before .loop .y) (c .loop-test .taken), c .before .before .before .before .pre .1, c .before .loop .inv .1 .same-length)
+      omega (
+        arith,
+        row-end-within (a .width) (a .height) (c .before .loop .y)
+            (c .loop-test .taken),
+        c .before .before .before .before .pre .1,
+        c .before .loop .inv .1 .same-length,
+      )
 
 mul-from : tie.Need-mul-from Inv-loop μ-loop
 mul-from c = omega (arith, src-end c)
@@ -68,10 +76,13 @@ part-blur-row-end-2 c = scratch-end (c .before)
 
 blur-row-requires : tie.Need-blur-row-requires Inv-loop μ-loop
 blur-row-requires c κs =
-    let a = c .before .before .before .before .before .before .args in
-    let l = row-part-length (a .«data» .now) (a .width) (a .stride) _ _ (add-sub-cancel-left _ _) (src-end (c .before .before)) in
-    let d = row-part-length (c .before .before .before .loop .scratch) (a .width) (a .width) _ _ (add-sub-cancel-left _ _) (scratch-end (c .before .before)) in
-    (d ∙ sym l, omega (arith, l, c .before .before .before .before .before .before .pre .0 .width-most))
+    let start = c .before .before .before .before .before .before in
+    let a = start .args in
+    let l = row-part-length (a .«data» .now) (a .width) (a .stride) _ _ (add-sub-cancel-left _ _)
+    (src-end (c .before .before)) in
+    let d = row-part-length (c .before .before .before .loop .scratch) (a .width) (a .width) _ _
+    (add-sub-cancel-left _ _) (scratch-end (c .before .before)) in
+    (d ∙ sym l, omega (arith, l, start .pre .0 .width-most))
 
 add-y : tie.Need-add-y Inv-loop μ-loop
 add-y c = omega arith
@@ -81,13 +92,17 @@ loop-less c = omega arith
 
 loop-again : tie.Need-loop-again Inv-loop μ-loop
 loop-again c =
-    let a = c .before .before .before .before .before .before .before .before .before .args in
-    let k = c .before .before .before .before .before .before .loop in
+    let turn = c .before .before .before .before .before .before in
+    let start = turn .before .before .before in
+    let a = start .args in
+    let k = turn .loop in
     let from = src-end (c .before .before .before .before .before) in (
       omega arith,
       painted-row (rowSum (a .«data» .now) (a .stride) (a .width)) _ (a .width) (a .width) (k .y) _ _ _ _ _
-          (row-part-length _ _ (a .stride) (k .y) _ (add-sub-cancel-left _ _) from) (add-sub-cancel-left _ _) (le-refl _) (scratch-end (c .before .before .before .before .before))
-          (row-part-sum _ _ (a .stride) (k .y) _ (add-sub-cancel-left _ _) from) (k .inv .1) (c .before .before .blur-row .ensures),
+          (row-part-length _ _ (a .stride) (k .y) _ (add-sub-cancel-left _ _) from) (add-sub-cancel-left _ _)
+          (le-refl _) (scratch-end (c .before .before .before .before .before))
+          (row-part-sum _ _ (a .stride) (k .y) _ (add-sub-cancel-left _ _) from) (k .inv .1)
+          (c .before .before .blur-row .ensures),
     )
 
 same-length : tie.Need-same-length Inv-loop μ-loop
@@ -95,10 +110,11 @@ same-length c = c .before .loop .inv .1 .same-length
 
 returns : tie.Need-returns Inv-loop μ-loop
 returns c =
+    let start = c .before .before .before .before in
     let k = c .before .loop in
-    let a = c .before .before .before .before .args in
+    let a = start .args in
     let e : k .y ≡ a .height = omega arith in
-    row-sums (a .«data» .now) (a .width) (a .height) (a .stride) _ _ (c .before .before .before .before .pre .1) (rw e at (k .inv .1))
+    row-sums (a .«data» .now) (a .width) (a .height) (a .stride) _ _ (start .pre .1) (rw e at (k .inv .1))
 
 pub blur-rows-spec : {M : Type 1} → statement M
 blur-rows-spec =

@@ -19,27 +19,40 @@ tap-place-requires-4 : tie.Need-tap-place-requires-4
 tap-place-requires-4 c κs = search needs
 
 shared-slice-read-weigh-bytes : tie.Need-shared-slice-read-weigh-bytes
-shared-slice-read-weigh-bytes c = rw (c .before .before .before .before .tap-place .ensures) (tap-lt _ _ _ (search needs))
+shared-slice-read-weigh-bytes c =
+    let at-tap-place = c .before .before .before .before in
+    rw (at-tap-place .tap-place .ensures) (tap-lt _ _ _ (search needs))
 
 shared-slice-read-weigh-bytes-2 : tie.Need-shared-slice-read-weigh-bytes-2
-shared-slice-read-weigh-bytes-2 c = rw (c .before .before .before .before .tap-place2 .ensures) (tap-lt _ _ _ (search needs))
+shared-slice-read-weigh-bytes-2 c =
+    let at-tap-place2 = c .before .before .before .before in
+    rw (at-tap-place2 .tap-place2 .ensures) (tap-lt _ _ _ (search needs))
 
 shared-slice-read-weigh-bytes-3 : tie.Need-shared-slice-read-weigh-bytes-3
 shared-slice-read-weigh-bytes-3 c = search needs
 
 shared-slice-read-weigh-bytes-4 : tie.Need-shared-slice-read-weigh-bytes-4
-shared-slice-read-weigh-bytes-4 c = rw (c .before .before .before .before .before .tap-place3 .ensures) (tap-lt _ _ _ (search needs))
+shared-slice-read-weigh-bytes-4 c =
+    let at-tap-place3 = c .before .before .before .before .before in
+    rw (at-tap-place3 .tap-place3 .ensures) (tap-lt _ _ _ (search needs))
 
 shared-slice-read-weigh-bytes-5 : tie.Need-shared-slice-read-weigh-bytes-5
-shared-slice-read-weigh-bytes-5 c = rw (c .before .before .before .before .before .tap-place4 .ensures) (tap-lt _ _ _ (search needs))
+shared-slice-read-weigh-bytes-5 c =
+    let at-tap-place4 = c .before .before .before .before .before in
+    rw (at-tap-place4 .tap-place4 .ensures) (tap-lt _ _ _ (search needs))
 
 weigh-bytes-requires : tie.Need-weigh-bytes-requires
 weigh-bytes-requires c κs = search needs
 
 returns : tie.Need-returns
 returns c =
-    let a = c .before .before .before .before .before .before .before .before .before .before .before .args in
-    cc (tap-sum-is (λ i. getD (a .row .now) i 0) (length (a .row .now)) (a .x), tap-own (length (a .row .now)) (a .x) (omega arith))
+    let start = c .before .before .before .before .before .before .before .before .before .before .before in
+    let a = start .args in
+    cc (
+      tap-sum-is (λ i. getD (a .row .now) i 0) (length (a .row .now)) (a .x),
+      tap-own
+          (length (a .row .now)) (a .x) (omega arith),
+    )
 
 pub column-sum-spec : {M : Type 1} → statement M
 column-sum-spec =

@@ -83,16 +83,21 @@ loop-less c = omega arith
 
 loop-again : tie.Need-loop-again Inv-loop μ-loop
 loop-again c =
-    let k = c .before .before .before .before .before .before .before .before .before .loop in
-    (omega arith, written-set (k .x) _ (k .inv .1) (omega arith) (c .sharpen-pixel .ensures ∙ ap (sharper _) (c .before .weigh .ensures)) (front-next (k .x)))
+    let turn = c .before .before .before .before .before .before .before .before .before in
+    let k = turn .loop in (
+      omega arith,
+      written-set (k .x) _ (k .inv .1) (omega arith)
+          (c .sharpen-pixel .ensures ∙ ap (sharper _) (c .before .weigh .ensures)) (front-next (k .x)),
+    )
 
 same-length : tie.Need-same-length Inv-loop μ-loop
 same-length c = c .before .loop .inv .1 .same-length
 
 returns : tie.Need-returns Inv-loop μ-loop
 returns c =
+    let start = c .before .before .before .before .before .before .before .before .before in
     let k = c .before .loop in
-    let e : k .x ≡ length (c .before .before .before .before .before .before .before .before .before .args .dst .now) = omega arith in
+    let e : k .x ≡ length (start .args .dst .now) = omega arith in
     rw e at (k .inv .1)
 
 pub sharpen-row-spec : {M : Type 1} → statement M

@@ -13,10 +13,12 @@ tap-place-requires : tie.Need-tap-place-requires
 tap-place-requires c κs = search needs
 
 -- the row ends within the scratch
-row-end : (c : tie.After-tap-place) → let a = c .before .before .args in c .tap-place .result * a .width + a .width ≤ length (a .scratch .now)
+row-end : (c : tie.After-tap-place) → let a =
+    c .before .before .args in c .tap-place .result * a .width + a .width ≤ length (a .scratch .now)
 row-end c =
     let a = c .before .before .args in
-    let e = row-end-within (a .width) (a .height) (c .tap-place .result) (rw (c .tap-place .ensures) (tap-lt _ _ _ (c .before .before .pre .0))) in
+    let e = row-end-within (a .width) (a .height) (c .tap-place .result)
+    (rw (c .tap-place .ensures) (tap-lt _ _ _ (c .before .before .pre .0))) in
     omega (arith, e, c .before .before .pre .3)
 
 mul-start : tie.Need-mul-start

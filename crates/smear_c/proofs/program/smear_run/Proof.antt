@@ -1,8 +1,6 @@
 -- `smear_c::program::smear_run` meets its contract.
 use borrow.Author.Needs.{needs}
-use mathlib.Core.Path.{sym, ap, _∙_}
-use Rattle.smear_run.specs.declared.RunAnswer.{RunAnswer}
-use Rattle.smear_c.specs.Program.{runResult, runOut}
+use Rattle.smear_c.proofs.Outs.{run-written, run-refused}
 use Rattle.smear_c.proofs.program.smear_run.Statement.{statement}
 use Rattle.smear_c.proofs.program.smear_run.Tie as tie
 
@@ -19,19 +17,15 @@ same-length : tie.Need-same-length
 same-length c = search needs
 
 returns : tie.Need-returns
-returns c =
-    let ran = c .before .before .before .before .before .run .ensures in
-    let e = sym (ran .answered) ∙ c .before .n .given .1 in
-    record { result = sym (ap runResult e); out = sym (ap (λ (a : RunAnswer). runOut a (c .before .before .before .before .before .before .before .before .before .before .args .written .now)) e); bytes = ran .bytes }
+returns c = let at-call =
+    c .before .before .before .before .before in run-written _ _ (at-call .run .ensures) (c .before .n .given .1)
 
 same-length-2 : tie.Need-same-length-2
 same-length-2 c = search needs
 
 returns-2 : tie.Need-returns-2
-returns-2 c =
-    let ran = c .before .before .before .before .before .run .ensures in
-    let e = sym (ran .answered) ∙ c .before .number .given .1 in
-    record { result = sym (ap runResult e); out = sym (ap (λ (a : RunAnswer). runOut a (c .before .before .before .before .before .before .before .before .before .before .args .written .now)) e); bytes = ran .bytes }
+returns-2 c = let at-call =
+    c .before .before .before .before .before in run-refused _ _ (at-call .run .ensures) (c .before .number .given .1)
 
 pub smear-run-spec : {M : Type 1} → statement M
 smear-run-spec =

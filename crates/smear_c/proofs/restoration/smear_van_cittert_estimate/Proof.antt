@@ -1,5 +1,10 @@
--- `smear_c::restoration::smear_van_cittert_estimate` meets its contract: the call's, at the configuration that the parameters make.
+-- `smear_c::restoration::smear_van_cittert_estimate` meets its contract: the call's, at the configuration that the
+-- parameters make.
 use borrow.Author.Needs.{needs}
+use Rattle.image.proofs.Call.{outcome-in-c}
+use Rattle.raster.specs.Direction.{directionIndex}
+use Rattle.smear_c.specs.Restoration.{decisionOf}
+use Rattle.smear_c.proofs.RestorationDecision.{decision-told}
 use Rattle.smear_c.proofs.restoration.smear_van_cittert_estimate.Statement.{statement}
 use Rattle.smear_c.proofs.restoration.smear_van_cittert_estimate.Tie as tie
 
@@ -21,11 +26,9 @@ same-length-2 c = search needs
 returns : tie.Need-returns
 returns c =
     let k = c .before .before .before .before in
-    record {
-      answer = k .van-cittert-estimate-into .result;
-      called = rw (k .before .before .before .restoration-config .ensures) at (k .van-cittert-estimate-into .ensures);
-      given = c .answer-c .ensures;
-    }
+    let called = rw (k .before .before .before .restoration-config .ensures) at
+    (k .van-cittert-estimate-into .ensures) in
+    outcome-in-c decisionOf decision-told directionIndex called (c .answer-c .ensures)
 
 pub smear-van-cittert-estimate-spec : {M : Type 1} → statement M
 smear-van-cittert-estimate-spec =

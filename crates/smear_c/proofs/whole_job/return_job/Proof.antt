@@ -1,6 +1,9 @@
 -- `smear_c::whole_job::return_job` meets its contract: the answer's two cases.
 use borrow.Author.Needs.{needs}
-use Rattle.smear_c.proofs.JobOuts.{given-result, given-refusal}
+use mathlib.Core.Path.{refl, ap}
+use Rattle.job.specs.Job.{jobDecided}
+use Rattle.smear_c.specs.WholeJob.{jobOuts}
+use Rattle.smear_c.proofs.Outs.{returns-found, returns-number}
 use Rattle.smear_c.proofs.whole_job.return_job.Statement.{statement}
 use Rattle.smear_c.proofs.whole_job.return_job.Tie as tie
 
@@ -14,10 +17,11 @@ enum-known-answer-2 : tie.Need-enum-known-answer-2
 enum-known-answer-2 c = search needs
 
 returns : tie.Need-returns
-returns c = given-result _ (c .before .before .answer .given .1) (c .index .ensures)
+returns c =
+    returns-found jobOuts _ _ (ap jobDecided (c .before .before .answer .given .1)) (rw (c .index .ensures) refl)
 
 returns-2 : tie.Need-returns-2
-returns-2 c = given-refusal _ (c .before .answer2 .given .1)
+returns-2 c = returns-number jobOuts _ _ (ap jobDecided (c .before .answer2 .given .1))
 
 pub return-job-spec : {M : Type 1} → statement M
 return-job-spec =

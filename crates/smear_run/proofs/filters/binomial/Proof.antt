@@ -25,7 +25,11 @@ same-length : tie.Need-same-length
 same-length c = search needs
 
 returns : tie.Need-returns
-returns c = binomial-filtered _ _ _ _ (c .before .before .before .before .before .before .before .before .before .before .before .args .picture .now) (c .before .before .before .before .before .before .before .before .before .before .before .pre) (length-replicate {A = ℕ} 4096 0) (c .before .before .before .before .fixed-binomial-unsharp-into .ensures) (c .binomial-answer .ensures)
+returns c =
+    let at-fixed-binomial-unsharp-into = c .before .before .before .before in
+    let start = at-fixed-binomial-unsharp-into .before .before .before .before .before .before .before in
+    binomial-filtered _ _ _ _ (start .args .picture .now) (start .pre) (length-replicate {A = ℕ} 4096 0)
+    (at-fixed-binomial-unsharp-into .fixed-binomial-unsharp-into .ensures) (c .binomial-answer .ensures)
 
 pub binomial-spec : {M : Type 1} → statement M
 binomial-spec =

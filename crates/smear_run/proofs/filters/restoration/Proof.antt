@@ -30,7 +30,13 @@ same-length : tie.Need-same-length
 same-length c = search needs
 
 returns : tie.Need-returns
-returns c = line-filtered _ _ _ _ _ (ap restorationOf (c .before .before .before .before .before .before .before .restoration-config .ensures)) (c .before .before .before .before .before .before .before .before .before .before .before .before .pre) (length-replicate {A = ℤ} 12288 (pos 0)) (c .before .before .before .before .van-cittert-line-into .ensures) (c .line-answer .ensures)
+returns c =
+    let called = c .before .before .before .before in
+    let settings = called .before .before .before in
+    let s = settings .before .before .before .before .before in
+    line-filtered _ _ _ _ (s .args .picture .now) (ap restorationOf (settings .restoration-config .ensures)) (s .pre)
+    (length-replicate {A = ℤ} 12288 (pos 0))
+    (called .van-cittert-line-into .ensures) (c .line-answer .ensures)
 
 pub restoration-spec : {M : Type 1} → statement M
 restoration-spec =

@@ -13,8 +13,11 @@ enum-known-record c = search needs
 
 compose-record-requires : tie.Need-compose-record-requires
 compose-record-requires c κs =
-    let read = c .before .before .before .before in
-    (read .before .before .before .before .pre, record { bytes = _; reads = sym (read .read .ensures) ∙ c .before .before .«record» .given .1 })
+    let read = c .before .before .before .before in (
+      read .before .before .before .before .pre,
+      record
+          { bytes = _; reads = sym (read .read .ensures) ∙ c .before .before .«record» .given .1 },
+    )
 
 enum-known-number : tie.Need-enum-known-number
 enum-known-number c = search needs
@@ -26,13 +29,23 @@ same-length : tie.Need-same-length
 same-length c = search needs
 
 returns : tie.Need-returns
-returns c = rw (of-record (c .before .before .before .before .before .before .before .before .before .before .before .args .job .now) (c .before .before .before .before .before .before .before .before .before .before .before .args .picture .now) (sym (c .before .before .before .before .before .before .before .read .ensures) ∙ c .before .before .before .before .before .«record» .given .1)) (c .before .before .compose-record .ensures)
+returns c =
+    let at-record = c .before .before .before .before .before in
+    let at-read = at-record .before .before in
+    let start = at-read .before .before .before .before in
+    rw (of-record (start .args .job .now) (start .args .picture .now)
+    (sym (at-read .read .ensures) ∙ at-record .«record» .given .1)) (c .before .before .compose-record .ensures)
 
 same-length-2 : tie.Need-same-length-2
 same-length-2 c = search needs
 
 returns-2 : tie.Need-returns-2
-returns-2 c = rw (of-refused (c .before .before .before .before .before .before .before .before .before .before .before .args .job .now) (c .before .before .before .before .before .before .before .before .before .before .before .args .picture .now) (sym (c .before .before .before .before .before .before .before .read .ensures) ∙ c .before .before .before .before .before .number .given .1)) (c .before .before .put-refusal .ensures)
+returns-2 c =
+    let at-number = c .before .before .before .before .before in
+    let at-read = at-number .before .before in
+    let start = at-read .before .before .before .before in
+    rw (of-refused (start .args .job .now) (start .args .picture .now)
+    (sym (at-read .read .ensures) ∙ at-number .number .given .1)) (c .before .before .put-refusal .ensures)
 
 pub compose-spec : {M : Type 1} → statement M
 compose-spec =

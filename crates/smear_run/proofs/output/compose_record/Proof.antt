@@ -20,7 +20,12 @@ same-length : tie.Need-same-length
 same-length c = search needs
 
 returns : tie.Need-returns
-returns c = let r = c .before .before .before .before .before .before .before .before .args .«record» in rw (no-job r _ (sym (c .before .before .before .before .before .is-job .ensures) ∙ not-true _ (c .before .before .before .before .if1 .taken))) (c .before .before .put-refusal .ensures)
+returns c =
+    let at-if1 = c .before .before .before .before in
+    let at-is-job = at-if1 .before in
+    let start = at-is-job .before .before .before in
+    let r = start .args .«record» in rw (no-job r _
+    (sym (at-is-job .is-job .ensures) ∙ not-true _ (at-if1 .if1 .taken))) (c .before .before .put-refusal .ensures)
 
 cast-n : tie.Need-cast-n
 cast-n c = search needs
@@ -38,7 +43,14 @@ same-length-2 : tie.Need-same-length-2
 same-length-2 c = search needs
 
 returns-2 : tie.Need-returns-2
-returns-2 c = let r = c .before .before .before .before .before .before .before .before .before .before .before .args .«record» in rw (too-large r _ (sym (c .before .before .before .before .before .before .before .before .is-job .ensures) ∙ not-false _ (c .before .before .before .before .before .before .before .if1 .left)) (c .before .before .before .before .if2 .taken)) (c .before .before .put-too-large .ensures)
+returns-2 c =
+    let at-if2 = c .before .before .before .before in
+    let at-if1 = at-if2 .before .before .before in
+    let at-is-job = at-if1 .before in
+    let start = at-is-job .before .before .before in
+    let r = start .args .«record» in rw (too-large r _
+    (sym (at-is-job .is-job .ensures) ∙ not-false _ (at-if1 .if1 .left)) (at-if2 .if2 .taken))
+    (c .before .before .put-too-large .ensures)
 
 slice-relend-prefix-filter : tie.Need-slice-relend-prefix-filter
 slice-relend-prefix-filter c = search needs
@@ -51,17 +63,31 @@ filter-requires c κs = length-take-le _ _ (omega (arith, c .before .if2 .left))
 
 finish-requires : tie.Need-finish-requires
 finish-requires c κs =
+    let at-if1 = c .before .before .before .before .before .before .before .before in
     let filtered = c .before .before .before in
     let job = filtered .before .before .before .before .before .before in
     let start = job .before .before .before in
-    let is-job = sym (job .is-job .ensures) ∙ not-false _ (c .before .before .before .before .before .before .before .before .if1 .left) in
-    (search needs, answer-writable (start .pre .1 .bytes) (start .args .«record») (start .pre .1 .reads) is-job (start .args .picture .now) _ _ _ (filtered .filter .ensures))
+    let is-job = sym (job .is-job .ensures) ∙ not-false _ (at-if1 .if1 .left) in (
+      search needs,
+      answer-writable (start .pre .1 .bytes) (start .args .«record») (start .pre .1 .reads) is-job
+          (start .args .picture .now) _ _ _ (filtered .filter .ensures),
+    )
 
 same-length-3 : tie.Need-same-length-3
 same-length-3 c = search needs
 
 returns-3 : tie.Need-returns-3
-returns-3 c = let a = c .before .before .before .before .before .before .before .before .before .before .before .before .before .before .before in let f = c .before .before .before .before .before .before .filter in rw (of-stage (a .args .«record») (a .args .picture .now) (sym (c .before .before .before .before .before .before .before .before .before .before .before .before .is-job .ensures) ∙ not-false _ (c .before .before .before .before .before .before .before .before .before .before .before .if1 .left)) (c .before .before .before .before .before .before .before .before .if2 .left)) (stage-printed (a .args .«record») (a .args .picture .now) (a .args .made .now) _ _ (omega (arith, c .before .before .before .before .before .before .before .before .if2 .left, a .pre)) (f .kept .1 .1 .0) (f .ensures) (c .before .before .finish .ensures))
+returns-3 c =
+    let at-filter = c .before .before .before .before .before .before in
+    let at-if2 = at-filter .before .before in
+    let at-if1 = at-if2 .before .before .before in
+    let at-is-job = at-if1 .before in
+    let a = c .before .before .before .before .before .before .before .before .before .before .before .before .before
+    .before .before in let f = at-filter
+    .filter in rw (of-stage (a .args .«record») (a .args .picture .now)
+    (sym (at-is-job .is-job .ensures) ∙ not-false _ (at-if1 .if1 .left)) (at-if2 .if2 .left))
+    (stage-printed (a .args .«record») (a .args .picture .now) (a .args .made .now) _ _
+    (omega (arith, at-if2 .if2 .left, a .pre)) (f .kept .1 .1 .0) (f .ensures) (c .before .before .finish .ensures))
 
 pub compose-record-spec : {M : Type 1} → statement M
 compose-record-spec =

@@ -41,13 +41,16 @@ returns c =
     let a = at-start .args in
     let is = w .before .before .before .answer .given .1 in
     let legal = subst Writable is (at-start .pre .1) in
-    rw is (then-written _ (a .n) (a .n + 32) (a .made .now) _ _ refl (at-start .pre .0) (w .write .ensures) legal (w .write .kept .1 .0))
+    rw is (then-written _ (a .n) (a .n + 32) (a .made .now) _ _ refl (at-start .pre .0)
+    (w .write .ensures) legal (w .write .kept .1 .0))
 
 same-length-2 : tie.Need-same-length-2
 same-length-2 c = search needs
 
 returns-2 : tie.Need-returns-2
-returns-2 c = rw (c .before .before .before .before .before .answer2 .given .1) (c .before .before .put-refusal .ensures)
+returns-2 c =
+    let at-answer2 = c .before .before .before .before .before in
+    rw (at-answer2 .answer2 .given .1) (c .before .before .put-refusal .ensures)
 
 pub finish-spec : {M : Type 1} → statement M
 finish-spec =

@@ -20,7 +20,11 @@ same-length : tie.Need-same-length
 same-length c = search needs
 
 returns : tie.Need-returns
-returns c = let k = c .before .before .copy in one-digit _ (c .before .before .before .before .before .before .before .before .before .args .made .now) (c .before .before .before .before .before .before .before .if1 .taken) (k .ensures .0) (k .ensures .1)
+returns c =
+    let at-if1 = c .before .before .before .before .before .before .before in
+    let start = at-if1 .before .before in
+    let k = c .before .before .copy in one-digit _ (start .args .made .now) (at-if1 .if1 .taken)
+    (k .ensures .0) (k .ensures .1)
 
 add-text : tie.Need-add-text
 add-text c = search needs
@@ -41,7 +45,11 @@ same-length-2 : tie.Need-same-length-2
 same-length-2 c = search needs
 
 returns-2 : tie.Need-returns-2
-returns-2 c = let k = c .before .before .copy2 in two-digits _ (c .before .before .before .before .before .before .before .before .before .args .made .now) (c .before .before .before .before .before .before .before .if1 .left) (k .ensures .0) (k .ensures .1)
+returns-2 c =
+    let at-if1 = c .before .before .before .before .before .before .before in
+    let start = at-if1 .before .before in
+    let k = c .before .before .copy2 in two-digits _ (start .args .made .now) (at-if1 .if1 .left)
+    (k .ensures .0) (k .ensures .1)
 
 pub put-refusal-spec : {M : Type 1} → statement M
 put-refusal-spec =

@@ -12,7 +12,13 @@ cast-t5 : tie.Need-cast-t5
 cast-t5 c = search needs
 
 returns : tie.Need-returns
-returns c = ap (λ (usual : JobConfig). record { «minimum_transitions» = usual .«minimum_transitions»; «minimum_amplitude» = usual .«minimum_amplitude»; iterations = c .before .before .args .«record» .iterations; relaxation = c .before .before .args .relaxation; border = c .before .before .args .«record» .border }) (c .before .default .ensures)
+returns c = ap (λ (usual : JobConfig). record {
+  «minimum_transitions» = usual .«minimum_transitions»;
+  «minimum_amplitude» = usual .«minimum_amplitude»;
+  iterations = c .before .before .args .«record» .iterations;
+  relaxation = c .before .before .args .relaxation;
+  border = c .before .before .args .«record» .border;
+}) (c .before .default .ensures)
 
 pub job-config-spec : {M : Type 1} → statement M
 job-config-spec = tie.close (tie.spec default-requires cast-t5 returns)

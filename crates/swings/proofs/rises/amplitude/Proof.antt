@@ -25,7 +25,8 @@ byte-signed : (a : ℕ) → a < 256 → toZ w32 a ≡ pos a
 byte-signed a h = toZ-pos w32 (omega arith)
 
 difference-fits : (a b : ℕ) → a < 256 → b < 256 → SFits w32 (toZ w32 a -ℤ toZ w32 b)
-difference-fits a b h k = rw (byte-signed a h, byte-signed b k) (record { sfits = omega (arith, byte-difference a b h k) })
+difference-fits a b h k =
+    rw (byte-signed a h, byte-signed b k) (record { sfits = omega (arith, byte-difference a b h k) })
 
 cast-result : tie.Need-cast-result
 cast-result c = search needs

@@ -1,4 +1,5 @@
--- `swings::rises::crossing` meets its contract: at each turn the first crossing from sample i on is the first from sample a on. Assumes nothing.
+-- `swings::rises::crossing` meets its contract: at each turn the first crossing from sample i on is the first from
+-- sample a on. Assumes nothing.
 use mathlib.Core.Path.{_≡_, refl, sym, _∙_}
 use Prim.Native.Nat.{_+_, _-_, _≤_}
 use native.Mathlib.Omega.{arith}
@@ -29,17 +30,20 @@ add-double-at c = omega arith
 
 double-at-requires-2 : tie.Need-double-at-requires-2 Inv-loop μ-loop
 double-at-requires-2 c κs =
-    let d = c .before .before .before .before in
-    sample-within (d .args .start) (d .args .step) {i = c .before .loop .i + 1} (omega arith) (d .pre .2)
+    let l = c .before in
+    let d = l .before .before .before in
+    sample-within (d .args .start) (d .args .step) {i = l .loop .i + 1} (omega arith) (d .pre .2)
 
 crossed-requires : tie.Need-crossed-requires Inv-loop μ-loop
 crossed-requires c κs = tt
 
 -- the test as one of the line's samples
 tested : (c : tie.After-crossed Inv-loop μ-loop) (t : Bool) → c .crossed .result ≡ t
-    → let d = c .before .before .before in let a = d .before .before .before .args in let x = sample (a .«data» .now) (a .start) (a .step) in
+    → let d = c .before .before .before in let a = d .before .before .before .args in
+    let x = sample (a .«data» .now) (a .start) (a .step) in
     crossedAt (a .rising) (a .level) (double x (d .loop .i)) (double x (d .loop .i + 1)) ≡ t
-tested c t e = rw (c .before .before .before .loop .inv .1, c .before .double-at2 .ensures) at (sym (c .crossed .ensures) ∙ e)
+tested c t e = rw (c .before .before .before .loop .inv .1, c .before .double-at2 .ensures) at
+    (sym (c .crossed .ensures) ∙ e)
 
 place-requires : tie.Need-place-requires Inv-loop μ-loop
 place-requires c κs = omega arith
@@ -50,7 +54,8 @@ returns c =
     let d = e .before .before .before in
     let a = d .before .before .before .args in
     rw (c .place .ensures, d .loop .inv .1, e .before .double-at2 .ensures)
-    (sym (crossing-here (sample (a .«data» .now) (a .start) (a .step)) (a .rising) (a .level) (d .loop .i) (a .b) (e .before .before .loop-test .taken) (tested e true (c .before .if1 .taken))) ∙ d .loop .inv .2)
+    (sym (crossing-here (sample (a .«data» .now) (a .start) (a .step)) (a .rising) (a .level) (d .loop .i) (a .b)
+    (e .before .before .loop-test .taken) (tested e true (c .before .if1 .taken))) ∙ d .loop .inv .2)
 
 add-i : tie.Need-add-i Inv-loop μ-loop
 add-i c = omega arith
@@ -65,14 +70,16 @@ loop-again c =
     let a = d .before .before .before .args in (
       omega arith,
       e .before .double-at2 .ensures,
-      sym (crossing-later (sample (a .«data» .now) (a .start) (a .step)) (a .rising) (a .level) (d .loop .i) (a .b) (e .before .before .loop-test .taken) (tested e false (c .if1 .left))) ∙ d .loop .inv .2,
+      sym (crossing-later (sample (a .«data» .now) (a .start) (a .step)) (a .rising) (a .level) (d .loop .i) (a .b)
+          (e .before .before .loop-test .taken) (tested e false (c .if1 .left))) ∙ d .loop .inv .2,
     )
 
 returns-2 : tie.Need-returns-2 Inv-loop μ-loop
 returns-2 c =
     let d = c .before in
     let a = d .before .before .before .args in
-    sym (crossing-none (sample (a .«data» .now) (a .start) (a .step)) (a .rising) (a .level) (d .loop .i) (a .b) (c .loop-test .left)) ∙ d .loop .inv .2
+    sym (crossing-none (sample (a .«data» .now) (a .start) (a .step)) (a .rising) (a .level) (d .loop .i) (a .b)
+    (c .loop-test .left)) ∙ d .loop .inv .2
 
 pub crossing-spec : {M : Type 1} → statement M
 crossing-spec =

@@ -17,7 +17,10 @@ int-to-float-result-2 c = search needs
 
 returns : tie.Need-returns
 unfolding levelOf
-returns c = rw (toZ-ofZ {w = w32} {z = c .before .amplitude .result} (record { sfits = c .before .amplitude .ok }), c .before .amplitude .ensures)
+returns c = rw (
+  toZ-ofZ {w = w32} {z = c .before .amplitude .result} (record { sfits = c .before .amplitude .ok }),
+  c .before .amplitude .ensures,
+)
 
 pub level-of-spec : {M : Type 1} → statement M
 level-of-spec =

@@ -33,14 +33,17 @@ cast-t9 c = search needs
 returns-3 : tie.Need-returns-3
 unfolding riseBetween
 returns-3 c =
-    let d = c .before .before .before .before .before in
+    let h = c .before .before in
+    let d = h .before .before .before in
     let e = toZ-pos w32 {n = d .before .before .args .swing} (omega arith) in
-    rw (d .low .given .1, c .before .before .high .given .1, e, c .if1 .taken)
+    rw (d .low .given .1, h .high .given .1, e, c .if1 .taken)
 
 returns-4 : tie.Need-returns-4
 unfolding riseBetween
-returns-4 c = rw (c .before .before .before .before .before .low .given .1, c .before .before .high .given .1, c .if1 .left)
+returns-4 c = let h = c .before .before in
+    rw (h .before .before .before .low .given .1, h .high .given .1, c .if1 .left)
 
 pub rise-between-spec : {M : Type 1} → statement M
 rise-between-spec =
-    tie.close (tie.spec enum-known-low enum-told returns enum-known-high enum-told-2 returns-2 cast-t9 returns-3 returns-4)
+    tie.close (tie.spec enum-known-low enum-told returns enum-known-high enum-told-2 returns-2 cast-t9 returns-3
+    returns-4)

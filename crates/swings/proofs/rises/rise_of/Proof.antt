@@ -20,7 +20,8 @@ returns : tie.Need-returns
 returns c =
     let d = c .before .before in
     let a = d .before .before .before .args in
-    let h = rw (c .before .swing-of .ensures, d .before .sample-at .ensures, d .sample-at2 .ensures) at (c .if1 .taken) in
+    let h = rw (c .before .swing-of .ensures, d .before .sample-at .ensures, d .sample-at2 .ensures) at
+    (c .if1 .taken) in
     sym (rise-small (a .minimum-amplitude) (sample (a .«data» .now) (a .start) (a .step)) (a .a) (a .b) h)
 
 level-of-requires : tie.Need-level-of-requires
@@ -40,12 +41,23 @@ rise-between-requires c κs = search needs
 
 returns-2 : tie.Need-returns-2
 returns-2 c =
-    let e = c .before .before .before .before in
+    let k = c .before .before .before in
+    let e = k .before in
     let d = e .before .before .before in
     let a = d .before .before .before .args in
-    let h = rw (e .before .before .swing-of .ensures, d .before .sample-at .ensures, d .sample-at2 .ensures) at (e .before .if1 .left) in
+    let h = rw (e .before .before .swing-of .ensures, d .before .sample-at .ensures, d .sample-at2 .ensures) at
+    (e .before .if1 .left) in
     rw (rise-is (a .minimum-amplitude) (sample (a .«data» .now) (a .start) (a .step)) (a .a) (a .b) h)
-    (rw (c .rise-between .ensures, c .before .crossing2 .ensures, c .before .before .before .crossing .ensures, c .before .before .level-of2 .ensures, e .level-of .ensures, e .before .before .swing-of .ensures, d .before .sample-at .ensures, d .sample-at2 .ensures))
+    (rw (
+      c .rise-between .ensures,
+      c .before .crossing2 .ensures,
+      k .crossing .ensures,
+      c .before .before .level-of2 .ensures,
+      e .level-of .ensures,
+      e .before .before .swing-of .ensures,
+      d .before .sample-at .ensures,
+      d .sample-at2 .ensures,
+    ))
 
 pub rise-of-spec : {M : Type 1} → statement M
 rise-of-spec =

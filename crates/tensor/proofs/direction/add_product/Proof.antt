@@ -17,9 +17,11 @@ cast-result-2 : tie.Need-cast-result-2
 cast-result-2 c = fits-as (toZ-ofZ (c .fits .v)) (sfits-widen tt (c .fits .v))
 
 module _ (c : tie.Start) where
-  product-is : toZ w32 (ofZ w32 (toZ w16 (ofZ w16 (c .args .u)))) *ℤ toZ w32 (ofZ w32 (toZ w16 (ofZ w16 (c .args .v)))) ≡ c .args .u *ℤ c .args .v
+  product-is : toZ w32 (ofZ w32 (toZ w16 (ofZ w16 (c .args .u)))) *ℤ toZ w32 (ofZ w32 (toZ w16 (ofZ w16 (c .args .v))))
+      ≡ c .args .u *ℤ c .args .v
   product-is =
-      ap₂ _*ℤ_ (held (toZ-ofZ (c .fits .u)) (sfits-widen tt (c .fits .u))) (held (toZ-ofZ (c .fits .v)) (sfits-widen tt (c .fits .v)))
+      ap₂ _*ℤ_ (held (toZ-ofZ (c .fits .u)) (sfits-widen tt (c .fits .u)))
+      (held (toZ-ofZ (c .fits .v)) (sfits-widen tt (c .fits .v)))
 
   product-fits : SFits w32 (c .args .u *ℤ c .args .v)
   product-fits = sfits-mul (c .args .u) (c .args .v) (omega (arith, c .pre))

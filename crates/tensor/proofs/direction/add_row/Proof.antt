@@ -14,7 +14,8 @@ cast-result : tie.Need-cast-result
 cast-result c = fits-as (toZ-ofZ (c .fits .row)) (sfits-widen tt (c .fits .row))
 
 module _ (c : tie.Start) where
-  sum-is : toZ w64 (ofZ w64 (c .args .sum)) +ℤ toZ w64 (ofZ w64 (toZ w32 (ofZ w32 (c .args .row)))) ≡ c .args .sum +ℤ c .args .row
+  sum-is : toZ w64 (ofZ w64 (c .args .sum)) +ℤ toZ w64 (ofZ w64 (toZ w32 (ofZ w32 (c .args .row))))
+      ≡ c .args .sum +ℤ c .args .row
   sum-is = ap₂ _+ℤ_ (toZ-ofZ (c .fits .sum)) (held (toZ-ofZ (c .fits .row)) (sfits-widen tt (c .fits .row)))
 
   sum-fits : SFits w64 (c .args .sum +ℤ c .args .row)

@@ -1,4 +1,5 @@
--- `tensor::estimate_line_direction` meets its contract: the layout's refusal, or what the parts' contracts give. Assumes nothing.
+-- `tensor::estimate_line_direction` meets its contract: the layout's refusal, or what the parts' contracts give.
+-- Assumes nothing.
 use borrow.Author.Needs.{needs}
 use mathlib.Core.Path.{_∙_, sym, ap}
 use native.Mathlib.Omega.{arith}
@@ -6,7 +7,8 @@ use mir.Syntax.{w64}
 use mir.Facts.{toZ-ofZ}
 use Rattle.image.proofs.Refusal.{laid}
 use Rattle.tensor.specs.declared.direction.DirectionAnswer.the-variants.{Direction, Refused}
-use Rattle.tensor.proofs.Answer.{answer-refused, answer-taken, estimate-is}
+use Rattle.tensor.specs.Tensor.{directionAnswer}
+use Rattle.tensor.proofs.Answer.{direction-refused, direction-accepted, estimate-is}
 use Rattle.tensor.proofs.direction.estimate_line_direction.Statement.{statement}
 use Rattle.tensor.proofs.direction.estimate_line_direction.Tie as tie
 
@@ -16,7 +18,7 @@ layout-refusal-requires c κs = search needs
 returns : tie.Need-returns
 returns c =
     let r = c .before .layout-refusal in
-    ap Refused (r .ensures) ∙ sym (answer-refused _ _ _ _ (λ z. c .if1 .taken (r .ensures ∙ z)))
+    ap Refused (r .ensures) ∙ sym (ap directionAnswer (direction-refused _ _ _ _ (λ z. c .if1 .taken (r .ensures ∙ z))))
 
 tensor-sums-requires : tie.Need-tensor-sums-requires
 tensor-sums-requires c κs = laid (sym (c .before .layout-refusal .ensures) ∙ c .if1 .left)
@@ -32,10 +34,11 @@ returns-2 c =
     ap Direction
     (estimate-is _ _ (s .ensures .0)
     (toZ-ofZ {w = w64} {z = s .result .a} (record { sfits = omega (arith, k .struct-told .given) }))
-    (toZ-ofZ {w = w64} {z = s .result .c} (record { sfits = omega (arith, c .before .before .before .struct-told2 .given) }))
+    (toZ-ofZ {w = w64} {z = s .result .c}
+    (record { sfits = omega (arith, c .before .before .before .struct-told2 .given) }))
     (toZ-ofZ {w = w64} {z = s .result .e} (record { sfits = omega (arith, c .before .before .struct-told3 .given) }))
     (c .before .tensor-direction .ensures))
-    ∙ sym (answer-taken _ _ _ _ (sym (g .before .layout-refusal .ensures) ∙ g .if1 .left))
+    ∙ sym (ap directionAnswer (direction-accepted _ _ _ _ (sym (g .before .layout-refusal .ensures) ∙ g .if1 .left)))
 
 pub estimate-line-direction-spec : {M : Type 1} → statement M
 estimate-line-direction-spec =

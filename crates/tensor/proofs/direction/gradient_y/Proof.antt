@@ -1,4 +1,5 @@
--- `tensor::gradient_y` meets its contract: its pixels are the definition's, by the place of the middle column. Assumes nothing.
+-- `tensor::gradient_y` meets its contract: its pixels are the definition's, by the place of the middle column. Assumes
+-- nothing.
 use borrow.Author.Needs.{needs}
 use Rattle.tensor.specs.Tensor.{gradientY}
 use Rattle.tensor.proofs.Gradient.{gradient-held, mid-at}
@@ -52,7 +53,11 @@ unfolding gradientY
 returns c =
     let start = c .before .before .before .before .before .before .before .before .before .before .before in
     gradient-held (record { sfits = c .gradient .ok })
-    (rw (mid-at (start .args .above .now) (start .args .x) (start .pre .0), mid-at (start .args .below .now) (start .args .x) (start .pre .1)) at (c .gradient .ensures))
+    (rw (
+      mid-at (start .args .above .now) (start .args .x) (start .pre .0),
+      mid-at (start .args .below .now)
+          (start .args .x) (start .pre .1),
+    ) at (c .gradient .ensures))
 
 pub gradient-y-spec : {M : Type 1} → statement M
 gradient-y-spec =

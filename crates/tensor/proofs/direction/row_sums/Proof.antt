@@ -1,4 +1,5 @@
--- `tensor::row_sums` meets its contract. The loop's invariant: each sum is that of the first x products, and has their size. Assumes nothing.
+-- `tensor::row_sums` meets its contract. The loop's invariant: each sum is that of the first x products, and has their
+-- size. Assumes nothing.
 use mathlib.Core.List.{List}
 use mathlib.Core.Path.{_≡_, refl}
 use Prim.Native.Nat.{ℕ, _-_, _≤_}
@@ -43,10 +44,14 @@ gradient-y-requires c κs = (omega arith, omega arith)
 
 -- The two gradients, as they are held.
 module _ (c : tie.After-gradient-y Inv-loop μ-loop) where
-  grad-x : let at = c .before .before .before in let args = at .before .before .before .before .args in Gradient (gx (args .above .now) (args .here .now) (args .below .now) (at .loop .x)) (toZ w16 (ofZ w16 (c .before .gradient-x .result)))
+  grad-x : let at = c .before .before .before in let args = at .before .before .before .before .args in Gradient
+      (gx (args .above .now) (args .here .now) (args .below .now) (at .loop .x))
+      (toZ w16 (ofZ w16 (c .before .gradient-x .result)))
   grad-x = gradient-held (record { sfits = c .before .gradient-x .ok }) (c .before .gradient-x .ensures)
 
-  grad-y : let at = c .before .before .before in let args = at .before .before .before .before .args in Gradient (gy (args .above .now) (args .here .now) (args .below .now) (at .loop .x)) (toZ w16 (ofZ w16 (c .gradient-y .result)))
+  grad-y : let at = c .before .before .before in let args = at .before .before .before .before .args in Gradient
+      (gy (args .above .now) (args .here .now) (args .below .now) (at .loop .x))
+      (toZ w16 (ofZ w16 (c .gradient-y .result)))
   unfolding gradientY
   grad-y = gradient-held (record { sfits = c .gradient-y .ok }) (c .gradient-y .ensures)
 
@@ -54,10 +59,14 @@ add-product-requires : tie.Need-add-product-requires Inv-loop μ-loop
 add-product-requires c κs = product-fits (c .before .before .before .loop .inv .1) (grad-x c) (grad-x c) (omega arith)
 
 add-product-requires-2 : tie.Need-add-product-requires-2 Inv-loop μ-loop
-add-product-requires-2 c κs = product-fits (c .before .before .before .before .loop .inv .2) (grad-x (c .before)) (grad-y (c .before)) (omega arith)
+add-product-requires-2 c κs =
+    let turn = c .before .before .before .before in
+    product-fits (turn .loop .inv .2) (grad-x (c .before)) (grad-y (c .before)) (omega arith)
 
 add-product-requires-3 : tie.Need-add-product-requires-3 Inv-loop μ-loop
-add-product-requires-3 c κs = product-fits (c .before .before .before .before .before .loop .inv .3) (grad-y (c .before .before)) (grad-y (c .before .before)) (omega arith)
+add-product-requires-3 c κs =
+    let turn = c .before .before .before .before .before in
+    product-fits (turn .loop .inv .3) (grad-y (c .before .before)) (grad-y (c .before .before)) (omega arith)
 
 add-x : tie.Need-add-x Inv-loop μ-loop
 add-x c = omega arith
@@ -70,16 +79,20 @@ loop-again c =
     let k = c .before .before .before in
     let inv = k .before .before .before .loop .inv in (
       omega arith,
-      product-next (inv .1) (grad-x k) (grad-x k) refl (record { sfits = c .before .before .add-product .ok }) (c .before .before .add-product .ensures),
-      product-next (inv .2) (grad-x k) (grad-y k) refl (record { sfits = c .before .add-product2 .ok }) (c .before .add-product2 .ensures),
-      product-next (inv .3) (grad-y k) (grad-y k) refl (record { sfits = c .add-product3 .ok }) (c .add-product3 .ensures),
+      product-next (inv .1) (grad-x k) (grad-x k) refl (record { sfits = c .before .before .add-product .ok })
+          (c .before .before .add-product .ensures),
+      product-next (inv .2) (grad-x k) (grad-y k) refl (record { sfits = c .before .add-product2 .ok })
+          (c .before .add-product2 .ensures),
+      product-next (inv .3) (grad-y k) (grad-y k) refl (record { sfits = c .add-product3 .ok })
+          (c .add-product3 .ensures),
     )
 
 returns : tie.Need-returns Inv-loop μ-loop
 unfolding rowSums rowSum
 returns c =
+    let start = c .before .before .before .before .before in
     let k = c .before .loop in
-    let n = length (c .before .before .before .before .before .args .here .now) in
+    let n = length (start .args .here .now) in
     let e : k .x ≡ n - 2 = omega arith in
     let ea = sofar-all (k .inv .1) e in
     let ec = sofar-all (k .inv .2) e in

@@ -12,7 +12,8 @@ use mir.Syntax.{w64}
 use mir.Val.{SFits, toZ, ofZ}
 use mir.Facts.{toZ-ofZ}
 use Rattle.numbers.proofs.Int.Machine.{fits-as, held, sfits-add, sfits-sub, read-le, read-nle, read-lt, read-nlt}
-use Rattle.tensor.proofs.TensorDirection.{direction-none, direction-vertical, direction-horizontal, direction-down-left, direction-down-right}
+use Rattle.tensor.proofs.TensorDirection.{direction-none, direction-vertical, direction-horizontal}
+use Rattle.tensor.proofs.TensorDirection.{direction-down-left, direction-down-right}
 use Rattle.tensor.proofs.direction.tensor_direction.Statement.{statement}
 use Rattle.tensor.proofs.direction.tensor_direction.Tie as tie
 
@@ -47,7 +48,8 @@ returns c =
     (direction-none _ _ _ _ _
     (⊎-elim
     (λ t. inl (t .taken))
-    (λ t. inr (⊎-elim (λ u. inl (ltb-true _ _ (u .1 .taken))) (λ u. inr (held-zero (sum-is s) (sum-fits s) (u .2 .taken))) t))
+    (λ t. inr (⊎-elim (λ u. inl (ltb-true _ _ (u .1 .taken)))
+    (λ u. inr (held-zero (sum-is s) (sum-fits s) (u .2 .taken))) t))
     (c .if1 .came)))
 
 sub-d : tie.Need-sub-d
@@ -78,7 +80,8 @@ module _ (c : tie.After-abs-i642) where
   size-c : c .before .abs-i64 .result ≡ natAbs (start .args .c)
   size-c = c .before .abs-i64 .ensures ∙ ap natAbs (toZ-ofZ (start .fits .c))
 
-  difference-held : toZ w64 (ofZ w64 (toZ w64 (ofZ w64 (start .args .a)) -ℤ toZ w64 (ofZ w64 (start .args .e)))) ≡ start .args .a -ℤ start .args .e
+  difference-held : toZ w64 (ofZ w64 (toZ w64 (ofZ w64 (start .args .a)) -ℤ toZ w64 (ofZ w64 (start .args .e))))
+      ≡ start .args .a -ℤ start .args .e
   difference-held = held (difference-is start) (difference-fits start)
 
   size-d : c .abs-i642 .result ≡ natAbs (start .args .a -ℤ start .args .e)

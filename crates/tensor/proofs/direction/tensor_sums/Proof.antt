@@ -1,4 +1,5 @@
--- `tensor::tensor_sums` meets its contract. The loop's invariant: each sum is that of the first y rows, and has their size. Assumes nothing.
+-- `tensor::tensor_sums` meets its contract. The loop's invariant: each sum is that of the first y rows, and has their
+-- size. Assumes nothing.
 use borrow.Author.Needs.{needs}
 use mathlib.Core.Path.{_≡_, _∙_, ap}
 use Prim.Native.Nat.{_-_, _≤_}
@@ -59,17 +60,28 @@ module _ (c : tie.After-row-sums Inv-loop μ-loop) where
   row-is =
       let at = c .before .before .before .before .before in
       c .row-sums .ensures
-      ∙ rw (c .before .before .before .row-of .ensures, c .before .before .row-of2 .ensures, c .before .row-of3 .ensures)
+      ∙ rw (
+        c .before .before .before .row-of .ensures,
+        c .before .before .row-of2 .ensures,
+        c
+            .before .row-of3 .ensures,
+      )
       (taken-sums (at .before .before .args .«data» .now) (at .before .before .pre) (at .loop .y) (omega arith))
 
 add-row-requires : tie.Need-add-row-requires Inv-loop μ-loop
-add-row-requires c κs = omega (arith, c .before .before .before .before .before .before .loop .inv .1 .small)
+add-row-requires c κs =
+    let turn = c .before .before .before .before .before .before in
+    omega (arith, turn .loop .inv .1 .small)
 
 add-row-requires-2 : tie.Need-add-row-requires-2 Inv-loop μ-loop
-add-row-requires-2 c κs = omega (arith, c .before .before .before .before .before .before .before .before .loop .inv .2 .small)
+add-row-requires-2 c κs =
+    let turn = c .before .before .before .before .before .before .before .before in
+    omega (arith, turn .loop .inv .2 .small)
 
 add-row-requires-3 : tie.Need-add-row-requires-3 Inv-loop μ-loop
-add-row-requires-3 c κs = omega (arith, c .before .before .before .before .before .before .before .before .before .before .loop .inv .3 .small)
+add-row-requires-3 c κs =
+    let turn = c .before .before .before .before .before .before .before .before .before .before in
+    omega (arith, turn .loop .inv .3 .small)
 
 add-y : tie.Need-add-y Inv-loop μ-loop
 add-y c = omega arith
@@ -80,12 +92,20 @@ loop-less c = omega arith
 loop-again : tie.Need-loop-again Inv-loop μ-loop
 unfolding rowSums
 loop-again c =
+    let at-add-row = c .before .before .before .before in
+    let at-struct-told = at-add-row .before in
     let k = c .before .before .before .before .before .before in
     let inv = k .before .before .before .before .before .loop .inv in (
       omega arith,
-      row-next (inv .1) (ap (λ (r : RowSums). r .a) (row-is k)) (record { sfits = omega (arith, c .before .before .before .before .before .struct-told .given) }) (record { sfits = c .before .before .before .before .add-row .ok }) (c .before .before .before .before .add-row .ensures),
-      row-next (inv .2) (ap (λ (r : RowSums). r .c) (row-is k)) (record { sfits = omega (arith, c .before .before .before .struct-told2 .given) }) (record { sfits = c .before .before .add-row2 .ok }) (c .before .before .add-row2 .ensures),
-      row-next (inv .3) (ap (λ (r : RowSums). r .e) (row-is k)) (record { sfits = omega (arith, c .before .struct-told3 .given) }) (record { sfits = c .add-row3 .ok }) (c .add-row3 .ensures),
+      row-next (inv .1) (ap (λ (r : RowSums). r .a) (row-is k))
+          (record { sfits = omega (arith, at-struct-told .struct-told .given) })
+          (record { sfits = at-add-row .add-row .ok }) (at-add-row .add-row .ensures),
+      row-next (inv .2) (ap (λ (r : RowSums). r .c) (row-is k))
+          (record { sfits = omega (arith, c .before .before .before .struct-told2 .given) })
+          (record { sfits = c .before .before .add-row2 .ok }) (c .before .before .add-row2 .ensures),
+      row-next (inv .3) (ap (λ (r : RowSums). r .e) (row-is k))
+          (record { sfits = omega (arith, c .before .struct-told3 .given) })
+          (record { sfits = c .add-row3 .ok }) (c .add-row3 .ensures),
     )
 
 returns : tie.Need-returns Inv-loop μ-loop
@@ -96,8 +116,15 @@ returns c =
     let e : k .y ≡ h - 2 = omega arith in
     let ea = sofar-all (k .inv .1) e in
     let ec = sofar-all (k .inv .2) e in
-    let ee = sofar-all (k .inv .3) e in
-    (cc, record { small-a = omega (arith, k .inv .1 .small); small-c = omega (arith, k .inv .2 .small); small-e = omega (arith, k .inv .3 .small) })
+    let ee = sofar-all (k .inv .3) e in (
+      cc,
+      record {
+        small-a = omega (arith, k .inv .1 .small);
+        small-c = omega (arith, k .inv .2 .small);
+        small-e =
+            omega (arith, k .inv .3 .small);
+      },
+    )
 
 pub tensor-sums-spec : {M : Type 1} → statement M
 tensor-sums-spec =

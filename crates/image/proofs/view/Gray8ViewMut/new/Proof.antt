@@ -1,37 +1,45 @@
--- `image::view::Gray8ViewMut::new` meets its contract.
+-- `image::view::Gray8ViewMut::new` meets its contract: the slice goes into the view beside the three numbers.
 use mathlib.Core.Path.{refl}
-use mathlib.Core.List.{[], _∷_}
-use mir.Syntax.{named}
+use mathlib.Core.List.{List, [], _∷_}
+use base.Logic.{emp}
+use base.Fml.{Fml}
+use contract.Monad.{factI}
 use contract.Running.{givenOf, tablesOf}
 use denote.Builtin.{u8}
-use denote.Exit.{no}
-use denote.Signature.{plain, mutSliceOf, namedLft}
-use denote.Slice.{mut-slice-tells}
-use denote.Struct.Rest.{own-shut}
+use denote.Shadow.{makes-shadow}
+use denote.Signature.{namedLft}
+use denote.Struct.Laws as LL
+use denote.Triple.Clauses.{lasts}
+use Rattle.walks.proofs.Compute.{computes}
+use Rattle.walks.proofs.Forward.{Kind}
+use Rattle.walks.proofs.Parameters.{spent, put-together}
 use Rattle.image.specs.View.{viewMutOf}
-use Rattle.image.proofs.BothViews.{gray8ViewMut}
-use Rattle.image.proofs.ViewNew.{Making, new}
+use Rattle.image.proofs.ViewParameters.{number}
 use Rattle.image.proofs.view.Gray8ViewMut as T
 use Rattle.image.proofs.view.Gray8ViewMut.Laws as T′
+use Rattle.image.proofs.view.Gray8ViewMut.new as self
 use Rattle.image.proofs.view.Gray8ViewMut.new.Key.{name}
 use Rattle.image.proofs.view.Gray8ViewMut.new.Statement.{statement}
 use Rattle.image.proofs.view.Gray8ViewMut.new.Code as code
 
-abbrev making : Making
-making = record {
-  shape = gray8ViewMut .shape;
-  slice = mutSliceOf (0 ∷ []) tt (plain (λ _. u8));
-  kept = no;
-  ref = λ κs x. x;
-  tells = λ κs. mut-slice-tells (named 0) (κs .0) u8;
-  fits = λ κs x p. p .0 .1 .0;
-  silent = λ 𝓤 H A W κs x f. refl;
-  last = λ κs x. tt;
-  made = λ κs. viewMutOf;
-}
+abbrev parameters : List (Kind 1)
+parameters = spent 0 tt u8 ∷ number ∷ number ∷ number ∷ []
 
 pub new-spec : {M : Type 1} → statement M
 unfolding code.routine tablesOf
 new-spec 𝓤 H 𝓜 𝓖 𝓡 =
-    new making 𝓤 H 𝓜 𝓖 𝓡 code.env name (code.unfolded 𝓤 H 𝓜 𝓡)
-    (λ κs x w h s. own-shut 𝓤 H (𝓖 .A) (givenOf 𝓤 H 𝓜 𝓖) (T.the-type (namedLft 1 0 tt κs)) (T′.the-laws (namedLft 1 0 tt κs)) (x, (w, (h, (s, tt)))))
+    computes parameters (λ κs. T.the-row (namedLft 1 0 tt κs)) (λ κs a. viewMutOf (a .0) (a .1 .0) (a .1 .1 .0) (a .1
+    .1 .1 .0))
+    (λ κs a. LL.val (T.the-type (namedLft 1 0 tt κs)) (T′.the-laws (namedLft 1 0 tt κs)) (viewMutOf (a .0) (a .1 .0) (a
+    .1 .1 .0) (a .1 .1 .1 .0))) 𝓤 H 𝓜 𝓖 𝓡
+    (self.clauses 𝓤 H (𝓖 .A) (𝓜 .mem) (𝓡 .run)) code.env name code.function (code.unfolded 𝓤 H 𝓜 𝓡)
+    (λ κs a g. record {
+      ws = (tt, (tt, (tt, (tt, tt))));
+      made = λ are.
+          let P : Fml = lasts self.ended κs a (tt, (tt, (tt, (tt, tt)))) in
+          put-together 𝓤 H (𝓖 .A) (givenOf 𝓤 H 𝓜 𝓖) (T.the-type (namedLft 1 0 tt κs)) (T′.the-laws (namedLft 1 0 tt
+          κs)) a P
+          (makes-shadow 𝓤 H (𝓖 .A) P (tt, (tt, (tt, (tt, tt)))) (tt, (tt, (tt, (tt, tt)))));
+      shows = factI 𝓤 _ (emp 𝓤) refl;
+    })
+    (record { entry = λ κs a t. t; returns = λ κs a bs. refl; leaves = λ κs a bs. refl })

@@ -1,0 +1,2 @@
+-- What contracts of other crates cite.
+pub mod Each

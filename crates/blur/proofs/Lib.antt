@@ -7,10 +7,12 @@ pub mod LengthExamples
 pub mod Parameters
 pub mod Passes
 pub mod Place
+pub mod PlainData
 pub mod Radix
 pub mod Rounds
 pub mod SameLength
 pub mod Selected
+pub mod Selecting
 pub mod Sorting
 pub mod Spans
 pub mod Steps

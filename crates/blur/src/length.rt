@@ -169,32 +169,7 @@ pub fn estimate_along(
     select(swings, opened(s), minimum_transitions)
 }
 
-// The same along the direction nearest to an angle.
-pub fn estimate_at(
-    data: &[u8],
-    width: usize,
-    height: usize,
-    stride: usize,
-    theta_radians: f64,
-    minimum_transitions: usize,
-    minimum_amplitude: u8,
-    swings: &mut [Swing],
-) -> LengthAnswer
-    ensures { λ r. ⌜ LengthMeasured (gray8 (now («data» .entry)) width height stride) (fromAngle «theta_radians»)
-        «minimum_transitions» «minimum_amplitude» (now (swings .entry)) (now (swings .exit)) r ⌝ }
-{
-    estimate_along(
-        data,
-        width,
-        height,
-        stride,
-        RasterDirection4::from_angle(theta_radians),
-        minimum_transitions,
-        minimum_amplitude,
-        swings,
-    )
-}
-
+// The length along the direction nearest to an angle.
 pub fn estimate_line_length_with(
     data: &[u8],
     width: usize,
@@ -207,19 +182,19 @@ pub fn estimate_line_length_with(
     ensures { λ r. ⌜ LengthMeasured (gray8 (now («data» .entry)) width height stride) (fromAngle «theta_radians»)
         (config .«minimum_transitions») (config .«minimum_amplitude») (now (swings .entry)) (now (swings .exit)) r ⌝ }
 {
-    estimate_at(
+    estimate_along(
         data,
         width,
         height,
         stride,
-        theta_radians,
+        RasterDirection4::from_angle(theta_radians),
         config.minimum_transitions,
         config.minimum_amplitude,
         swings,
     )
 }
 
-// With the default thresholds.
+// The same with the default thresholds.
 pub fn estimate_line_length(
     data: &[u8],
     width: usize,
@@ -232,14 +207,13 @@ pub fn estimate_line_length(
         (defaults .«minimum_transitions») (defaults .«minimum_amplitude»)
         (now (swings .entry)) (now (swings .exit)) r ⌝ }
 {
-    estimate_at(
+    estimate_line_length_with(
         data,
         width,
         height,
         stride,
         theta_radians,
-        LineLengthConfig::MINIMUM_TRANSITIONS,
-        LineLengthConfig::MINIMUM_AMPLITUDE,
+        LineLengthConfig::default(),
         swings,
     )
 }

@@ -1,4 +1,4 @@
-// Measuring the smear of a picture: its direction and its length.
+// Measuring the length of a picture's smear, along a direction.
 pub mod length;
 mod records;
 mod select;

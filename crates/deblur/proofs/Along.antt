@@ -13,15 +13,16 @@ use lib.Ieee.{Float}
 use Rattle.numbers.specs.Written.{Painted}
 use Rattle.numbers.proofs.Written.{painted-same}
 use Rattle.image.specs.Picture.{pixel}
-use Rattle.floats.specs.Factor.{within}
+use Rattle.image.specs.Refusal.{maxSide}
+use Rattle.floats.specs.Factor.{maxRelaxation, maxGain, within}
 use Rattle.floats.proofs.Factor.{within-more, rounded-le}
 use Rattle.raster.specs.Border.{borderValue}
 use Rattle.raster.specs.declared.border.LineBorderMode.{LineBorderMode}
 use Rattle.raster.specs.declared.direction.RasterDirection4.{RasterDirection4}
 use Rattle.line.specs.declared.kernel.LineKernel.{LineKernel}
-use Rattle.line.specs.Kernel.{KernelTaken}
+use Rattle.line.specs.Kernel.{KernelAsked}
 use Rattle.deblur.specs.Lines.{rowStride, kernelEstimate, AlongAsked, SourceAsked}
-use Rattle.deblur.specs.Refusal.{maxRelaxation, maxGain, LengthTaken, IterationsTaken}
+use Rattle.deblur.specs.Refusal.{LengthTaken, IterationsTaken}
 use Rattle.deblur.specs.Settings.{lineKernel}
 use Rattle.deblur.proofs.RowStride.{walked, pixel-same, estimate-same}
 
@@ -31,17 +32,17 @@ use Rattle.deblur.proofs.RowStride.{walked, pixel-same, estimate-same}
 pub factor-small : (limit : ℕ) (factor : Float) → limit ≤ 255 → within limit factor ≡ true → T (within 255 factor)
 factor-small limit factor few t = within-more limit 255 few factor (passes (within limit factor) t)
 
-module _ {width height L : ℕ} (l : LengthTaken width height L) (mw : width ≤ 1024) (mh : height ≤ 1024) (factor : Float)
-    (border : LineBorderMode) where
+module _ {width height L : ℕ} (l : LengthTaken width height L) (mw : width ≤ maxSide) (mh : height ≤ maxSide)
+    (factor : Float) (border : LineBorderMode) where
   pub restoration-kernel : {iterations : ℕ} → within maxRelaxation factor ≡ true → IterationsTaken iterations
-      → KernelTaken (lineKernel L factor iterations border)
+      → KernelAsked (lineKernel L factor iterations border)
   restoration-kernel t i =
       let q = rounded-le maxRelaxation factor (passes (within maxRelaxation factor) t) in
       let least = l .least in
       let most = l .most in
       record { long = omega arith; bounded = omega arith; iterated = i .most; gain = omega arith; relaxation = λ _. q }
 
-  pub unsharp-kernel : within maxGain factor ≡ true → KernelTaken (lineKernel L factor 1 border)
+  pub unsharp-kernel : within maxGain factor ≡ true → KernelAsked (lineKernel L factor 1 border)
   unsharp-kernel t =
       let q = rounded-le maxGain factor (passes (within maxGain factor) t) in
       let least = l .least in

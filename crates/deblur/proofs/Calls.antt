@@ -1,29 +1,27 @@
--- The calls from their refusals: what an accepted one asks of the lines (`filter-asked`, `estimate-asked`), and its
--- contract where it refuses (`filter-refused`, `estimate-refused`) and where it is done (`filter-done`,
--- `estimate-done`).
+-- The calls along lines from their refusals, whatever they write to: what an accepted one has (`accepted`) and asks of
+-- the lines (`asked`), and its contract where it refuses (`refused`) and where it is done (`done`).
 use mathlib.Core.Path.{_≡_, refl, sym, ap, _∙_}
 use mathlib.Core.List.{List}
 use Prim.Native.Nat.{ℕ, _*_, _≤_}
 use native.Mathlib.Omega.{arith}
-use denote.Floats.{passes}
 use lib.Dec.{T}
 use lib.IntN.{ℤ}
 use lib.ListN.{length}
-use Rattle.floats.specs.Factor.{within}
-use Rattle.image.specs.Call.{Gray8}
-use Rattle.image.specs.Refusal.{Laid}
+use Rattle.floats.specs.Factor.{maxRelaxation, maxGain, within}
+use Rattle.image.specs.Call.{Gray8, decided, Outcome}
+use Rattle.image.specs.Refusal.{maxSide, Laid}
 use Rattle.image.proofs.Call.{refused-by, accepted-by}
 use Rattle.image.proofs.Pair.{destination-laid}
 use Rattle.raster.specs.declared.direction.RasterDirection4.{RasterDirection4}
 use Rattle.line.specs.declared.kernel.LineKernel.{LineKernel}
-use Rattle.line.specs.Kernel.{KernelTaken}
+use Rattle.line.specs.Kernel.{KernelAsked}
 use Rattle.deblur.specs.declared.DirectionalUnsharpConfig.{DirectionalUnsharpConfig}
+use Rattle.deblur.specs.declared.RestorationAnswer.{RestorationAnswer}
 use Rattle.deblur.specs.declared.RestorationAnswer.the-variants.{Done, Refused}
 use Rattle.deblur.specs.declared.VanCittertConfig.{VanCittertConfig}
-use Rattle.deblur.specs.Calls.{restorationAnswer, filterNumber, filterWrites, Filtered, estimateNumber}
-use Rattle.deblur.specs.Calls.{estimateWrites, EstimateWritten}
+use Rattle.deblur.specs.Calls.{restorationAnswer, filterNumber, filterWrites, estimateNumber, estimateWrites}
 use Rattle.deblur.specs.Lines.{AlongAsked}
-use Rattle.deblur.specs.Refusal.{maxRelaxation, maxGain, FilterAccepted, EstimateAccepted}
+use Rattle.deblur.specs.Refusal.{scratchNeeded}
 use Rattle.deblur.specs.Settings.{LineFilter, restorationOf, unsharpOf}
 use Rattle.deblur.proofs.Along.{factor-small, restoration-kernel, unsharp-kernel}
 use Rattle.deblur.proofs.Refusals.{restoration-taken, unsharp-taken, filter-accepted, estimate-accepted}
@@ -31,7 +29,8 @@ use Rattle.deblur.proofs.Refusals.{restoration-taken, unsharp-taken, fi
 -- ---- accepted settings: their factor has a q, and their kernel is taken
 
 abbrev pub Sound : LineFilter → Type 0
-Sound f = (width height : ℕ) → width ≤ 1024 → height ≤ 1024 → f .refusal width height ≡ 0 → KernelTaken (f .kernel)
+Sound f =
+    (width height : ℕ) → width ≤ maxSide → height ≤ maxSide → f .refusal width height ≡ 0 → KernelAsked (f .kernel)
 
 module _ (config : VanCittertConfig) where
   pub restoration-sound : Sound (restorationOf config)
@@ -53,82 +52,105 @@ module _ (config : DirectionalUnsharpConfig) where
   pub gain-small : (width height : ℕ) → unsharpOf config .refusal width height ≡ 0 → T (within 255 (config .gain))
   gain-small width height e = factor-small maxGain (config .gain) (omega arith) (unsharp-taken width height config e .1)
 
--- ---- restoration and line unsharp
+-- ---- a call along lines
 
-module _ (src dst : Gray8) (f : LineFilter) (scratch : List ℤ) {n : ℕ} (e : n ≡ filterNumber src dst f (length scratch))
-  where
-    module _ (none : n ≡ 0) where
-      filter-taken : FilterAccepted (length (src .bytes)) (src .width) (src .height) (src .stride) (length (dst .bytes))
-          (dst .width)
-          (dst .height) (dst .stride) (f .refusal (src .width) (src .height)) (length scratch)
-      filter-taken = filter-accepted _ _ _ _ _ _ _ _ _ _ (sym e ∙ none)
+-- what an accepted one has; `Room` is what its destination has besides
+pub record Accepted (src : Gray8) (f : LineFilter) (scratchLen : ℕ) (Room : Type 0) : Type 0 where
+  pub laid : Laid (length (src .bytes)) (src .width) (src .height) (src .stride)
+  pub settings : f .refusal (src .width) (src .height) ≡ 0
+  pub scratch-least : scratchNeeded (src .width) (src .height) ≤ scratchLen
+  pub room : Room
 
-      pub filter-settings : f .refusal (src .width) (src .height) ≡ 0
-      filter-settings = filter-taken .settings-taken
+-- its source, what its settings come to, its scratch, its refusal's number, and what it writes to a D
+pub record LineCall (D : Type 0) : Type 1 where
+  pub src : Gray8
+  pub filter : LineFilter
+  pub scratch : List ℤ
+  pub number : ℕ
+  pub old : D
+  pub writes : LineKernel → RasterDirection4 → D → D → Type 0
+  pub Room : Type 0
+  pub takes : number ≡ 0 → Accepted src filter (length scratch) Room
 
-      pub filter-asked : Sound f → {kernel : LineKernel} → kernel ≡ f .kernel
-          → AlongAsked (length (src .bytes)) (src .width) (src .height) (src .stride) kernel (length scratch)
-          × Laid (length (dst .bytes)) (src .width) (src .height) (dst .stride)
-      filter-asked sound k =
-          let t = filter-taken in
-          let p = t .pictures in (
-            record {
-              laid = p .source;
-              taken = rw k (sound (src .width) (src .height) (p .source .width-most) (p .source .height-most)
-                  (t .settings-taken));
-              room = t .scratch-least;
-            },
-            destination-laid p,
-          )
+-- restoration and line unsharp
+abbrev pub filterCall : Gray8 → Gray8 → LineFilter → List ℤ → LineCall (List ℕ)
+filterCall src dst f scratch =
+    record {
+      src = src;
+      filter = f;
+      scratch = scratch;
+      number = filterNumber src dst f (length scratch);
+      old = dst .bytes;
+      writes = filterWrites src (dst .stride);
+      Room = Laid (length (dst .bytes)) (src .width) (src .height) (dst .stride);
+      takes = λ e.
+          let t = filter-accepted _ _ _ _ _ _ _ _ _ _ e in
+          record {
+            laid = t .pictures .source;
+            settings = t .settings-taken;
+            scratch-least = t .scratch-least;
+            room = destination-laid (t .pictures);
+          };
+    }
 
-    pub filter-refused : (n ≡ 0 → ⊥) → Filtered src dst (dst .bytes) f scratch scratch (Refused n)
-    filter-refused some = refused-by (f .direction) restorationAnswer (filterWrites src (dst .stride) (f .kernel))
-        (dst .bytes) scratch n (sym e) some refl
+-- the estimate call
+abbrev pub estimateCall : Gray8 → List ℤ → LineFilter → List ℤ → LineCall (List ℤ)
+estimateCall src old f scratch =
+    record {
+      src = src;
+      filter = f;
+      scratch = scratch;
+      number = estimateNumber src (length old) f (length scratch);
+      old = old;
+      writes = estimateWrites src;
+      Room = src .width * src .height ≤ length old;
+      takes = λ e.
+          let t = estimate-accepted _ _ _ _ _ _ _ e in
+          record {
+            laid = t .picture;
+            settings = t .settings-taken;
+            scratch-least = t .scratch-least;
+            room = t .dst-least;
+          };
+    }
 
-    pub filter-done : {new : List ℕ} {scratch′ : List ℤ} {d : RasterDirection4} {kernel : LineKernel} → n ≡ 0
-        → d ≡ f .direction
-        → kernel ≡ f .kernel → filterWrites src (dst .stride) kernel d (dst .bytes) new
-        → Filtered src dst new f scratch scratch′ (Done (record { «raster_direction» = d }))
-    filter-done none i k w =
-        accepted-by (f .direction) restorationAnswer
-        (filterWrites src (dst .stride) (f .kernel)) (dst .bytes) scratch _ _
-        (sym e ∙ none)
-        (ap (λ (d : RasterDirection4). Done (record { «raster_direction» = d })) i) (rw (i, k) at w)
+-- n is the refusal's number
+pub record Told {D : Type 0} (call : LineCall D) (n : ℕ) : Type 0 where
+  pub is : n ≡ call .number
 
--- ---- the estimate call
+-- the call's contract
+abbrev Contract : {D : Type 0} → LineCall D → D → List ℤ → RestorationAnswer → Type 0
+Contract call new scratch′ answer =
+    Outcome (decided (call .number) (call .filter .direction)) restorationAnswer (call .writes (call .filter .kernel))
+    (call .old) new (call .scratch) scratch′ answer
 
-module _ (src : Gray8) (old : List ℤ) (f : LineFilter) (scratch : List ℤ) {n : ℕ}
-    (e : n ≡ estimateNumber src (length old) f (length scratch)) where
+module _ {D : Type 0} {call : LineCall D} {n : ℕ} (t : Told call n) where
+  pub refused : (n ≡ 0 → ⊥) → Contract call (call .old) (call .scratch) (Refused n)
+  refused some = refused-by (call .filter .direction) restorationAnswer (call .writes (call .filter .kernel))
+      (call .old) (call .scratch) n (sym (t .is)) some refl
+
   module _ (none : n ≡ 0) where
-    estimate-taken : EstimateAccepted (length (src .bytes)) (src .width) (src .height) (src .stride) (length old)
-        (f .refusal (src .width) (src .height)) (length scratch)
-    estimate-taken = estimate-accepted _ _ _ _ _ _ _ (sym e ∙ none)
+    pub accepted : Accepted (call .src) (call .filter) (length (call .scratch)) (call .Room)
+    accepted = call .takes (sym (t .is) ∙ none)
 
-    pub estimate-settings : f .refusal (src .width) (src .height) ≡ 0
-    estimate-settings = estimate-taken .settings-taken
-
-    pub estimate-asked : Sound f → {kernel : LineKernel} → kernel ≡ f .kernel
-        → AlongAsked (length (src .bytes)) (src .width) (src .height) (src .stride) kernel (length scratch)
-        × (src .width * src .height ≤ length old)
-    estimate-asked sound k =
-        let t = estimate-taken in
-        let l = t .picture in (
+    pub asked : Sound (call .filter) → {kernel : LineKernel} → kernel ≡ call .filter .kernel
+        → AlongAsked (length (call .src .bytes)) (call .src .width) (call .src .height) (call .src .stride) kernel
+        (length (call .scratch)) × call .Room
+    asked sound k =
+        let a = accepted in
+        let l = a .laid in (
           record {
             laid = l;
-            taken = rw k (sound (src .width) (src .height) (l .width-most) (l .height-most) (t .settings-taken));
-            room = t .scratch-least;
+            taken = rw k (sound _ _ (l .width-most) (l .height-most) (a .settings));
+            room = a .scratch-least;
           },
-          t .dst-least,
+          a .room,
         )
 
-  pub estimate-refused : (n ≡ 0 → ⊥) → EstimateWritten src old old f scratch scratch (Refused n)
-  estimate-refused some = refused-by (f .direction) restorationAnswer (estimateWrites src (f .kernel)) old scratch n
-      (sym e) some refl
-
-  pub estimate-done : {new : List ℤ} {scratch′ : List ℤ} {d : RasterDirection4} {kernel : LineKernel} → n ≡ 0
-      → d ≡ f .direction
-      → kernel ≡ f .kernel → estimateWrites src kernel d old new
-      → EstimateWritten src old new f scratch scratch′ (Done (record { «raster_direction» = d }))
-  estimate-done none i k w =
-      accepted-by (f .direction) restorationAnswer (estimateWrites src (f .kernel)) old scratch _ _ (sym e ∙ none)
-      (ap (λ (d : RasterDirection4). Done (record { «raster_direction» = d })) i) (rw (i, k) at w)
+    pub done : {new : D} {scratch′ : List ℤ} {d : RasterDirection4} {kernel : LineKernel}
+        → d ≡ call .filter .direction → kernel ≡ call .filter .kernel → call .writes kernel d (call .old) new
+        → Contract call new scratch′ (Done (record { «raster_direction» = d }))
+    done i k w =
+        accepted-by (call .filter .direction) restorationAnswer (call .writes (call .filter .kernel))
+        (call .old) (call .scratch) _ _ (sym (t .is) ∙ none)
+        (ap (λ (d : RasterDirection4). Done (record { «raster_direction» = d })) i) (rw (i, k) at w)

@@ -1,5 +1,5 @@
 -- Laws of the loop over the lines of a direction, over any element of the destination: what a line asks of an accepted
--- picture (`line-laid`, `scatter-asked`), its estimates from its bytes (`line-estimates`), and one line more of the
+-- picture (`line-asked`, `scatter-asked`), its estimates from its bytes (`line-estimates`), and one line more of the
 -- destination (`lines-begun`, `lines-further`, `lines-done`).
 use mathlib.Core.Path.{_≡_, refl, sym, _∙_}
 use mathlib.Core.List.{List}
@@ -7,6 +7,7 @@ use Prim.Native.Nat.{ℕ, _+_, _-_, _*_, _/_, _%_, _≤_, _<_}
 use native.Mathlib.Nat.{mul-comm, zero-mul}
 use native.Mathlib.Omega.{arith}
 use lib.IntN.{ℤ}
+use lib.ListN.{length}
 use Rattle.numbers.specs.Written.{Written, Painted}
 use Rattle.numbers.proofs.Nat.{le-mul-of-pos-left}
 use Rattle.numbers.proofs.Written.{written-none, written-same}
@@ -20,7 +21,7 @@ use Rattle.raster.proofs.BorderMap.{border-lawful}
 use Rattle.raster.proofs.Place.{line-in}
 use Rattle.raster.proofs.Scatter.{startByte, linesBelow, step-or-one, line-byte-lt, lines-none, lines-whole}
 use Rattle.line.specs.declared.kernel.LineKernel.{LineKernel}
-use Rattle.line.specs.Kernel.{LineLaid, LineRestored, bytesOn, lineAt as estimateAt}
+use Rattle.line.specs.Kernel.{LineAsked, LineRestored, bytesOn, lineAt as estimateAt}
 use Rattle.line.proofs.LineWindow.{after-same}
 use Rattle.deblur.specs.Scatter.{ScatterAsked, Scattered}
 use Rattle.deblur.specs.Lines.{kernelOn, kernelEstimate, SourceAsked, LinesAsked, ScanLineRestored}
@@ -60,7 +61,7 @@ module _ {len w h stride : ℕ} (l : Laid len w h stride) where
     pub start-in : start < len
     start-in = omega (arith, reached 0 (line-in d w h k (l .width-pos) (l .height-pos) below .some), zero-mul step)
 
-    laid-at : (scratchLen : ℕ) → scratchNeeded w h ≤ scratchLen → LineLaid len start step n scratchLen
+    laid-at : (scratchLen : ℕ) → scratchNeeded w h ≤ scratchLen → LineAsked len start step n scratchLen
     laid-at scratchLen room =
         let i = line-in d w h k (l .width-pos) (l .height-pos) below in
         let short = i .short in
@@ -75,9 +76,9 @@ module _ {len w h stride : ℕ} (l : Laid len w h stride) where
       pub line-start : byteOf stride (line .col) (line .row) < len
       line-start = rw e start-in
 
-      pub line-laid : (scratchLen : ℕ) → scratchNeeded w h ≤ scratchLen
-          → LineLaid len (byteOf stride (line .col) (line .row)) s (line .len) scratchLen
-      line-laid scratchLen room = rw (e, f) (laid-at scratchLen room)
+      pub line-asked : (scratchLen : ℕ) → scratchNeeded w h ≤ scratchLen
+          → LineAsked len (byteOf stride (line .col) (line .row)) s (line .len) scratchLen
+      line-asked scratchLen room = rw (e, f) (laid-at scratchLen room)
 
       pub scatter-asked : (scratchLen : ℕ) → scratchNeeded w h ≤ scratchLen
           → ScatterAsked len (byteOf stride (line .col) (line .row)) s (line .len) scratchLen
@@ -137,26 +138,55 @@ module _ {A : Type 0} {z : A} (g : ℤ → A) (src : List ℕ) (w h stride dstSt
 
 -- ---- one turn: line k of the lines that a loop counts
 
-module _ {len w h stride dstLen dstStride : ℕ} {kernel : LineKernel} {scratchLen : ℕ} (d : RasterDirection4)
-    (asked : LinesAsked len w h stride dstLen dstStride kernel scratchLen) {count k : ℕ} (is : count ≡ lineCount d w h)
-    (below : k < count) where
-  pub turn-below : k < lineCount d w h
-  turn-below = rw is at below
+-- what its restoration asks, of a scratch that has kept its length
+pub turn-asked : {len w h stride dstLen dstStride : ℕ} {kernel : LineKernel} {scratchLen : ℕ} (d : RasterDirection4)
+    → LinesAsked len w h stride dstLen dstStride kernel scratchLen → {count k : ℕ} → count ≡ lineCount d w h
+    → k < count → {lent : ℕ} → lent ≡ scratchLen → SourceAsked len w h stride kernel lent × (k < lineCount d w h)
+turn-asked d asked is below e =
+    let s = asked .source in
+    (record { walked = s .walked; taken = s .taken; room = rw e (s .room) }, rw is at below)
 
-  -- what its restoration asks, of a scratch that has kept its length
-  pub turn-asked : {lent : ℕ} → lent ≡ scratchLen → SourceAsked len w h stride kernel lent × (k < lineCount d w h)
-  turn-asked e =
-      let s = asked .source in
-      (record { walked = s .walked; taken = s .taken; room = rw e (s .room) }, turn-below)
+-- the line is restored, and s is the step to its next place in the destination
+pub record Turn (src : List ℕ) (w h stride dstLen dstStride : ℕ) (d : RasterDirection4) (kernel : LineKernel) (k s : ℕ)
+    (scratch : List ℤ) (line : ScanLine) : Type 0 where
+  pub destination : Laid dstLen w h dstStride
+  pub room : scratchNeeded w h ≤ length scratch
+  pub below : k < lineCount d w h
+  pub step-is : s ≡ placeStep d dstStride
+  pub restored : ScanLineRestored src w h stride d k kernel scratch line
 
-  module _ (line : ScanLine) (e : line ≡ scanLineAt d w h k) where
-    -- its first place in the destination
-    pub turn-first : byteOf dstStride (line .col) (line .row) < dstLen
-    turn-first = line-start (asked .destination .laid) d k turn-below line e _ refl
+pub turn-restored : {src : List ℕ} {w h stride dstLen dstStride : ℕ} {d : RasterDirection4} {kernel : LineKernel}
+    {scratchLen : ℕ}
+    → LinesAsked (length src) w h stride dstLen dstStride kernel scratchLen → {count k s : ℕ} → count ≡ lineCount d w h
+    → k < count → s ≡ placeStep d dstStride → {scratch : List ℤ} → length scratch ≡ scratchLen → {line : ScanLine}
+    → ScanLineRestored src w h stride d k kernel scratch line
+    → Turn src w h stride dstLen dstStride d kernel k s scratch line
+turn-restored asked is below step kept restored =
+    record {
+      destination = asked .destination .laid;
+      room = rw kept (asked .source .room);
+      below = rw is at below;
+      step-is = step;
+      restored = restored;
+    }
 
-    -- what its scatter asks
-    pub turn-scatter : (s : ℕ) → s ≡ placeStep d dstStride → {dstLen′ lent : ℕ} → dstLen′ ≡ dstLen → lent ≡ scratchLen
-        → ScatterAsked dstLen′ (byteOf dstStride (line .col) (line .row)) s (line .len) lent
-    turn-scatter s f el er =
-        rw (el, er) (scatter-asked (asked .destination .laid) d k turn-below line e s f scratchLen
-        (asked .source .room))
+module _ {src : List ℕ} {w h stride dstLen dstStride : ℕ} {d : RasterDirection4} {kernel : LineKernel} {k s : ℕ}
+    {scratch : List ℤ} {line : ScanLine} (t : Turn src w h stride dstLen dstStride d kernel k s scratch line) where
+  -- its first place in the destination
+  pub turn-first : byteOf dstStride (line .col) (line .row) < dstLen
+  turn-first = line-start (t .destination) d k (t .below) line (t .restored .line-is) s (t .step-is)
+
+  -- what its scatter asks
+  pub turn-scatter : {dstLen′ : ℕ} → dstLen′ ≡ dstLen
+      → ScatterAsked dstLen′ (byteOf dstStride (line .col) (line .row)) s (line .len) (length scratch)
+  turn-scatter e =
+      rw e (scatter-asked (t .destination) d k (t .below) line (t .restored .line-is) s (t .step-is) (length scratch)
+      (t .room))
+
+  -- one line more of the destination
+  pub turn-further : {A : Type 0} {z : A} (g : ℤ → A) {old mid new : List A}
+      → LinesTo z g src w h stride dstStride d kernel k old mid
+      → Scattered z g (line .len) scratch (byteOf dstStride (line .col) (line .row)) s mid new
+      → LinesTo z g src w h stride dstStride d kernel (k + 1) old new
+  turn-further g =
+      lines-further g src w h stride dstStride d kernel (t .destination) s (t .step-is) (t .below) (t .restored)

@@ -1,26 +1,26 @@
 -- When a call along lines is given which number, and what it is to be accepted.
-use Prim.Native.Nat.{ℕ, _*_, _%_, _≤_, _<_}
+use Prim.Native.Nat.{ℕ, _*_, _%_, _<_}
 use native.Mathlib.Nat.{pos-of-ne-zero, zero-lt-suc}
 use native.Mathlib.Omega.{arith}
 use mathlib.Core.Bool.{Bool, true, false, not, cond, _||_, or-true}
 use mathlib.Core.Logic.{_⊎_, inl, inr, ⊎-elim}
-use mathlib.Core.Path.{_≡_, ap, _∙_}
+use mathlib.Core.Path.{_≡_}
 use lib.Dec.{eqb, ltb}
 use lib.Ieee.{Float}
 use lib.Ieee.Scale.{finite}
 use borrow.Author.Tests.{eq-eqb, ne-eqb, lt-ltb, le-ltb, eqb-false, ltb-false, not-false}
 use Rattle.numbers.proofs.Nat.{even-or-odd}
 use Rattle.numbers.proofs.Test.{or-false-intro, or-false-left, or-false-right}
-use Rattle.floats.specs.Factor.{within}
+use Rattle.floats.specs.Factor.{maxRelaxation, maxGain, within}
 use Rattle.image.specs.Refusal.{layoutRefusal, pairRefusal, firstRefusal}
 use Rattle.image.proofs.Chain.{cond-zero, first-zero, first-own}
 use Rattle.image.proofs.Refusal.{laid, accepted}
-use Rattle.image.proofs.Pair.{laid-pair, accepted-pair}
+use Rattle.image.proofs.Pair.{laid-pair}
+use Rattle.line.specs.Kernel.{maxIterations, maxBlurLength}
 use Rattle.deblur.specs.declared.DirectionalUnsharpConfig.{DirectionalUnsharpConfig}
 use Rattle.deblur.specs.declared.VanCittertConfig.{VanCittertConfig}
-use Rattle.deblur.specs.Refusal.{maxIterations, maxRelaxation, maxGain, maxBlurLength, scratchNeeded}
 use Rattle.deblur.specs.Refusal.{blurLengthRefusal, angleRefusal, factorRefusal, iterationsRefusal}
-use Rattle.deblur.specs.Refusal.{iteratedRefusal}
+use Rattle.deblur.specs.Refusal.{iteratedRefusal, scratchNeeded}
 use Rattle.deblur.specs.Refusal.{lineRefusal, restorationRefusal, unsharpRefusal, scratchShort, lentRefusal}
 use Rattle.deblur.specs.Refusal.{inOrder, filterRefusal, estimateRefusal, LengthTaken, IterationsTaken}
 use Rattle.deblur.specs.Refusal.{FilterAccepted, EstimateAccepted}

@@ -26,7 +26,7 @@ use Rattle.raster.specs.declared.direction.RasterDirection4.{RasterDirection4}
 use Rattle.raster.proofs.BorderMap.{border-lawful}
 use Rattle.raster.proofs.Place.{one-line}
 use Rattle.line.proofs.LineWindow.{after-same}
-use Rattle.deblur.specs.Lines.{rowStride, Walked}
+use Rattle.deblur.specs.Lines.{rowStride, WalkAsked}
 use Rattle.deblur.specs.Picture.{samples, estimate}
 use Rattle.deblur.proofs.PictureLaws.{estimate-is, estimate-on}
 
@@ -37,7 +37,7 @@ module _ (w h s : ℕ) where
   pub row-stride-more : (h ≡ 1 → ⊥) → rowStride w h s ≡ s
   row-stride-more n = simp (ne-eqb h 1 n)
 
-pub walked : {len w h s : ℕ} → Laid len w h s → len < 2 ^ 63 → Walked len w h (rowStride w h s)
+pub walked : {len w h s : ℕ} → Laid len w h s → len < 2 ^ 63 → WalkAsked len w h (rowStride w h s)
 walked {len} {w} {h} {s} l few =
     let ph = l .height-pos in
     let n = l .len-least in
@@ -132,7 +132,7 @@ painted-stride {z = z} f w h s {old} {new} some wide P =
         rw (u .0, u .1, v .0, v .1)))
 
 -- a destination without padding
-pub walked-tight : {len w h s dstLen : ℕ} → Laid len w h s → w * h ≤ dstLen → Walked dstLen w h w
+pub walked-tight : {len w h s dstLen : ℕ} → Laid len w h s → w * h ≤ dstLen → WalkAsked dstLen w h w
 walked-tight {w = w} {h} l room =
     let ph = l .height-pos in
     let mw = l .width-most in

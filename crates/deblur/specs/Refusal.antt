@@ -1,30 +1,16 @@
 -- Document 01, "Refusals, first match wins", for the line filters: a test for each number, which is 0 where nothing is
 -- refused, and the tests in the document's order.
-use Prim.Native.Nat.{ℕ, _+_, _*_, _%_, _≤_, max}
+use Prim.Native.Nat.{ℕ, _*_, _%_, _≤_}
 use mathlib.Core.Bool.{Bool, not, cond, _||_}
 use mathlib.Core.Path.{_≡_}
 use lib.Dec.{eqb, ltb}
 use lib.Ieee.{Float}
 use lib.Ieee.Scale.{finite}
-use Rattle.floats.specs.Factor.{within}
+use Rattle.floats.specs.Factor.{maxRelaxation, maxGain, within}
 use Rattle.image.specs.Refusal.{layoutRefusal, pairRefusal, firstRefusal, Laid, LaidPair}
+use Rattle.line.specs.Kernel.{maxIterations, maxBlurLength}
 use Rattle.deblur.specs.declared.VanCittertConfig.{VanCittertConfig}
 use Rattle.deblur.specs.declared.DirectionalUnsharpConfig.{DirectionalUnsharpConfig}
-
--- ---- the limits
-
-abbrev pub maxIterations : ℕ
-maxIterations = 22
-
-abbrev pub maxRelaxation : ℕ
-maxRelaxation = 1
-
-abbrev pub maxGain : ℕ
-maxGain = 8
-
--- the longest blur of a picture
-abbrev pub maxBlurLength : ℕ → ℕ → ℕ
-maxBlurLength width height = 2 * max width height + 1
 
 -- how many i32 a line filter asks as scratch
 abbrev pub scratchNeeded : ℕ → ℕ → ℕ

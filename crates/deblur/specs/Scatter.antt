@@ -4,11 +4,11 @@ use mathlib.Core.List.{List}
 use mathlib.Core.Logic.{_⊎_}
 use lib.IntN.{ℤ}
 use Rattle.numbers.specs.Written.{Written, comb}
-use Rattle.line.specs.Kernel.{LineLaid, lineAt}
+use Rattle.line.specs.Kernel.{LineAsked, lineAt}
 
 -- the destination has the line's places, and each is its own
 pub record ScatterAsked (dstLen start step n scratchLen : ℕ) : Type 0 where
-  pub laid : LineLaid dstLen start step n scratchLen
+  pub laid : LineAsked dstLen start step n scratchLen
   pub apart : (0 < step) ⊎ (n ≤ 1)
 
 -- g of the estimate at each place, and nothing else changed

@@ -6,7 +6,7 @@ ghost use lib.IntN.{pos};
 ghost use lib.ListN.{length};
 ghost use Prim.Native.Nat.{_*_, _≤_};
 ghost use Rattle.floats.specs.Factor.{within};
-ghost use Rattle.image.specs.Refusal.{Laid};
+ghost use Rattle.image.specs.Refusal.{maxSide, Laid};
 ghost use Rattle.numbers.specs.Scalar.{clampByte};
 ghost use Rattle.numbers.specs.Written.{Painted};
 ghost use Rattle.deblur.specs.Lines.{kernelEstimate, rowStride, AlongAsked};
@@ -20,7 +20,7 @@ use raster::direction::RasterDirection4;
 
 // How many i32 a line filter asks as scratch.
 pub fn scratch_needed(width: usize, height: usize) -> usize
-    requires { ⌜ (width ≤ 1024) × (height ≤ 1024) ⌝ }
+    requires { ⌜ (width ≤ maxSide) × (height ≤ maxSide) ⌝ }
     ensures { λ r. ⌜ r ≡ scratchNeeded width height ⌝ }
 {
     3 * (width * height)

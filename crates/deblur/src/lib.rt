@@ -10,6 +10,8 @@ use crate::refusal::estimate_refusal;
 use crate::refusal::filter_refusal;
 use crate::refusal::restoration_refusal;
 use crate::refusal::unsharp_refusal;
+use floats::Quantized;
+use line::kernel::LineKernel;
 use raster::border::LineBorderMode;
 use raster::direction::RasterDirection4;
 
@@ -54,9 +56,9 @@ pub enum RestorationAnswer {
 }
 
 impl VanCittertConfig {
-    pub const MAX_ITERATIONS: usize = 22;
+    pub const MAX_ITERATIONS: usize = LineKernel::MAX_ITERATIONS;
 
-    pub const MAX_RELAXATION: u8 = 1;
+    pub const MAX_RELAXATION: u8 = Quantized::MAX_RELAXATION;
 
     pub const DEFAULT_BLUR_LENGTH: usize = 3;
 
@@ -78,7 +80,7 @@ impl VanCittertConfig {
 }
 
 impl DirectionalUnsharpConfig {
-    pub const MAX_GAIN: u8 = 8;
+    pub const MAX_GAIN: u8 = Quantized::MAX_GAIN;
 
     pub const DEFAULT_GAIN: f64 = 1.5;
 

@@ -19,7 +19,7 @@ use lib.Ieee.Nearest.{div-same}
 use lib.Ieee.Positive.{num, den, den-pos}
 use borrow.Author.Tests.{ltb-true, lt-ltb, le-ltb, le-leb}
 use Rattle.floats.specs.declared.Quantized.the-variants.{Q16, Refused}
-use Rattle.floats.specs.Factor.{within, roundedQ16, quantized, factorOf}
+use Rattle.floats.specs.Factor.{scale, within, roundedQ16, quantized, factorOf}
 use Rattle.floats.proofs.Order.{never, same-test, or-l, or-r, or-split, lt-value, le-value, inf-lt, inf-le}
 use Rattle.floats.proofs.Order.{nan-le}
 use Rattle.floats.proofs.Values.{Cut, cut-value, ofInt-value, mul-pow-value}
@@ -110,16 +110,16 @@ rounded-high x = lt-div-mul-add (mul-pos (zero-lt-suc 1) (den-pos x))
 
 -- ---- q's bound
 
-doubled : (k d : ℕ) → k * 65536 * (2 * d) ≡ 131072 * (k * d)
-doubled k d = mul-mul-mul-comm k 65536 2 d
-    ∙ omega (arith, mul-assoc k 2 (65536 * d), mul-left-comm k 65536 d, mul-left-comm k 2 (65536 * d))
+doubled : (k d : ℕ) → k * scale * (2 * d) ≡ 131072 * (k * d)
+doubled k d = mul-mul-mul-comm k scale 2 d
+    ∙ omega (arith, mul-assoc k 2 (scale * d), mul-left-comm k scale d, mul-left-comm k 2 (scale * d))
 
-pub rounded-le : (limit : ℕ) (x : Float) → T (within limit x) → roundedQ16 x ≤ limit * 65536
+pub rounded-le : (limit : ℕ) (x : Float) → T (within limit x) → roundedQ16 x ≤ limit * scale
 unfolding roundedQ16
 rounded-le limit x t =
     let d : 0 < den x = den-pos x in
     le-of-suc-le-suc (div-lt-iff-lt-mul (mul-pos (zero-lt-suc 1) d) .1
-    (omega (arith, within-le limit x t, suc-mul (limit * 65536) (2 * den x), doubled limit (den x))))
+    (omega (arith, within-le limit x t, suc-mul (limit * scale) (2 * den x), doubled limit (den x))))
 
 pub quantized-taken : (limit : ℕ) (x : Float) → within limit x ≡ true → quantized limit x ≡ Q16 (roundedQ16 x)
 unfolding quantized
@@ -212,26 +212,26 @@ halves-rounded x =
 
 -- ---- the factor of a q
 
-over : (q : ℕ) (x : Float) → HasValue x false q 1 → div binary64 x (fin false 1 (pos 16)) ≡ round binary64 false q 65536
+over : (q : ℕ) (x : Float) → HasValue x false q 1 → div binary64 x (fin false 1 (pos 16)) ≡ round binary64 false q scale
 unfolding div
 over q nan v = absurd v
 over q (inf s) v = absurd v
 over q (fin true m e) v = absurd (true≢false (v .0))
 over q (fin false m e) v =
-    round-same binary64 false (m * up e * 1) (65536 * down e) q 65536 (mul-pos (zero-lt-suc 65535) (down-pos e))
+    round-same binary64 false (m * up e * 1) (scale * down e) q scale (mul-pos (zero-lt-suc 65535) (down-pos e))
     (zero-lt-suc 65535)
-    (ap (λ (w : ℕ). w * 65536) (v .1) ∙ mul-assoc q (down e) 65536 ∙ ap (λ (w : ℕ). q * w) (mul-comm (down e) 65536))
+    (ap (λ (w : ℕ). w * scale) (v .1) ∙ mul-assoc q (down e) scale ∙ ap (λ (w : ℕ). q * w) (mul-comm (down e) scale))
 
-pub factor-value : (q : ℕ) → q < 2 ^ 53 → HasValue (factorOf q) false q 65536
+pub factor-value : (q : ℕ) → q < 2 ^ 53 → HasValue (factorOf q) false q scale
 unfolding factorOf
 factor-value q h =
-    subst (λ (x : Float). HasValue x false q 65536) (sym (over q (ofInt binary64 (pos q)) (ofInt-value q (le-of-lt h))))
-    (round-exact binary64 false q 65536 q 1058 (zero-lt-suc 65535) h (lt-of-lt-of-le (shl-lt 53 1058 h) (lit≤ tt))
-    (sym (mul-assoc q (2 ^ 1058) 65536)))
+    subst (λ (x : Float). HasValue x false q scale) (sym (over q (ofInt binary64 (pos q)) (ofInt-value q (le-of-lt h))))
+    (round-exact binary64 false q scale q 1058 (zero-lt-suc 65535) h (lt-of-lt-of-le (shl-lt 53 1058 h) (lit≤ tt))
+    (sym (mul-assoc q (2 ^ 1058) scale)))
 
-pub quantized-factor : (limit q : ℕ) → limit ≤ 255 → q ≤ limit * 65536 → quantized limit (factorOf q) ≡ Q16 q
+pub quantized-factor : (limit q : ℕ) → limit ≤ 255 → q ≤ limit * scale → quantized limit (factorOf q) ≡ Q16 q
 quantized-factor limit q l h =
     let v = factor-value q (omega arith) in
     quantized-taken limit (factorOf q)
-    (within-value limit (factorOf q) q 65536 (zero-lt-suc 65535) v ∙ le-leb q (limit * 65536) h)
-    ∙ ap Q16 (rounded-value (factorOf q) false q 65536 (zero-lt-suc 65535) v ∙ omega arith)
+    (within-value limit (factorOf q) q scale (zero-lt-suc 65535) v ∙ le-leb q (limit * scale) h)
+    ∙ ap Q16 (rounded-value (factorOf q) false q scale (zero-lt-suc 65535) v ∙ omega arith)

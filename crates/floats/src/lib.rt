@@ -5,7 +5,7 @@ ghost use lib.Dec.{T};
 ghost use Prim.Native.Nat.{_≤_, _^_};
 ghost use lib.Ieee.Scale.{finite};
 ghost use lib.Ieee.Positive.{num, den};
-ghost use Rattle.floats.specs.Factor.{within, roundedQ16, quantized, factorOf};
+ghost use Rattle.floats.specs.Factor.{maxRelaxation, maxGain, within, roundedQ16, quantized, factorOf};
 ghost use Rattle.floats.specs.Odd.{ceiling, oddFrom, oddLength};
 
 // q, or that the factor is refused.
@@ -13,6 +13,20 @@ pub enum Quantized {
     Q16(u32),
     Refused,
 }
+
+impl Quantized {
+    // q is the factor times this.
+    pub const SCALE: u32 = 65536;
+
+    pub const MAX_RELAXATION: u8 = 1;
+
+    pub const MAX_GAIN: u8 = 8;
+}
+
+// The scale as a double, and the number of its halves.
+const SCALE: f64 = Quantized::SCALE as f64;
+
+const HALVES: f64 = (2 * Quantized::SCALE) as f64;
 
 // The odd length, or that the estimate is no number or above 2^53.
 pub enum OddLength {
@@ -45,7 +59,7 @@ pub fn round_q16(factor: f64) -> u32
     requires { ⌜ T (within 255 factor) ⌝ }
     ensures { λ r. ⌜ r ≡ roundedQ16 factor ⌝ }
 {
-    let halves = std::num::truncating_f64_to_u64(factor * 131072.0);
+    let halves = std::num::truncating_f64_to_u64(factor * HALVES);
     ((halves + 1) / 2) as u32
 }
 
@@ -60,25 +74,25 @@ fn quantize(factor: f64, limit: u8) -> Quantized
     }
 }
 
-// q of a relaxation, which lies in 0..1.
+// q of a relaxation.
 pub fn quantize_relaxation(factor: f64) -> Quantized
-    ensures { λ r. ⌜ r ≡ quantized 1 factor ⌝ }
+    ensures { λ r. ⌜ r ≡ quantized maxRelaxation factor ⌝ }
 {
-    quantize(factor, 1)
+    quantize(factor, Quantized::MAX_RELAXATION)
 }
 
-// q of a gain, which lies in 0..8.
+// q of a gain.
 pub fn quantize_gain(factor: f64) -> Quantized
-    ensures { λ r. ⌜ r ≡ quantized 8 factor ⌝ }
+    ensures { λ r. ⌜ r ≡ quantized maxGain factor ⌝ }
 {
-    quantize(factor, 8)
+    quantize(factor, Quantized::MAX_GAIN)
 }
 
 // The factor q / 65,536, exactly.
 pub fn factor_of_q16(q: u32) -> f64
     ensures { λ r. ⌜ r ≡ factorOf q ⌝ }
 {
-    q as f64 / 65536.0
+    q as f64 / SCALE
 }
 
 // x raised to a whole number. Up to 2^53 the whole part is a double too.

@@ -17,7 +17,7 @@ use prog.Wp.{Heap}
 use ghost.Atoms.{Atoms, sem}
 use contract.Lifetimes.{Lfts, Within}
 use contract.Monad.{top}
-use types.Kit.{Given, ‵, _⊛_, later, _$_, _∵_, !, qed, use0, use1, frame, fsplit, fjoin, split, keep, updating}
+use types.Kit.{Given, ‵, _⊛_, later, _$_, _∵_, !, qed, use1, fsplit, fjoin, split, keep, updating}
 use types.Kit.{now as at-once, await, suffices, move, done}
 use denote.RattleType.{Denots, Valss, owns}
 use denote.Laws.{Is}

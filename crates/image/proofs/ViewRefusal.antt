@@ -1,5 +1,5 @@
 -- `refusal` of a view: its result, and the call that gives it, for the proofs of both views.
-use mathlib.Core.Path.{_≡_, refl, _∙_, ap}
+use mathlib.Core.Path.{_≡_, _∙_, ap}
 use Prim.Native.Nat.{ℕ, zero, suc, _+_, _*_, _-_, _<_, _^_}
 use mathlib.Core.Bool.{Bool, true, false, cond, _||_}
 use mathlib.Core.List.{List, [], _∷_}
@@ -10,9 +10,8 @@ use mir.Val.{Val, vint, vunit}
 use base.Logic.{ent, emp}
 use prog.Model.{Model}
 use prog.Wp.{Heap}
-use ghost.Atoms.{Atoms}
 use contract.Running.{Running, GhostRules}
-use types.Kit.{Given, raw, ‵, _$_, _∵_, !, qed, move, use0, join, done}
+use types.Kit.{Given, ‵, _$_, _∵_, !, qed, move, use0, join, done}
 use denote.Builtin.{u8, usize}
 use denote.Laws.{Is}
 use denote.RattleType.{owns}

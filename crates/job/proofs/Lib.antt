@@ -5,4 +5,5 @@ pub mod NearPicture
 pub mod Plans
 pub mod Settings
 pub mod Assembly
+pub mod Parameters
 pub mod Demands

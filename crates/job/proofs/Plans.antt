@@ -12,7 +12,7 @@ use lib.Ieee.Fits.{down-pos}
 use lib.Ieee.Positive.{positive, above}
 use lib.ListN.{length}
 use Rattle.numbers.proofs.Test.{or-false-left, or-false-right}
-use Rattle.floats.specs.Factor.{within}
+use Rattle.floats.specs.Factor.{maxRelaxation, within}
 use Rattle.floats.specs.Odd.{oddOf, oddLength}
 use Rattle.floats.specs.declared.OddLength.{OddLength}
 use Rattle.floats.specs.declared.OddLength.the-variants.{Length, Beyond}
@@ -37,10 +37,8 @@ use Rattle.blur.specs.declared.length.LineLength.{LineLength}
 use Rattle.blur.specs.declared.length.LineLength.the-variants.{Found, Nothing}
 use Rattle.blur.specs.Select.{Positive}
 use Rattle.blur.proofs.Above.{length-above}
+use Rattle.line.specs.Kernel.{maxIterations, maxBlurLength}
 use Rattle.deblur.specs.Refusal.{
-  maxIterations,
-  maxRelaxation,
-  maxBlurLength,
   scratchNeeded,
   factorRefusal,
   iterationsRefusal,
@@ -239,22 +237,17 @@ module _ (width height : ℕ) (d : RasterDirection4) where
   plan-fits estimate L e (inl a) = rw (e, le-ltb (maxBlurLength width height) L (omega arith))
   plan-fits estimate L e (inr b) = rw (e, le-ltb (maxBlurLength width height) L (omega arith))
 
-  plan-along : (l : LineLength) (result : JobResult) → planLength width height d l ≡ accepts result
+  pub plan-along : (l : LineLength) (result : JobResult) → planLength width height d l ≡ accepts result
       → Measured width height l result
   plan-along (Found estimate) result e = plan-odd estimate (oddLength estimate) result refl e
   plan-along Nothing result e = let z : _≡_ {A = ℕ} 0 1 = cc in absurd (omega arith)
 
-  pub plan-refused : (n : ℕ) (l : LineLength) → (n ≡ 0 → ⊥)
-      → Refused n ≡ jobAnswer (unless n (planLength width height d l))
-  plan-refused n l some = sym (ap jobAnswer (unless-refuses n (planLength width height d l) some))
+  pub plan-found : {m : LengthAnswer} {l : LineLength} {estimate : Float} {answer : JobAnswer} → m ≡ answered.Length l
+      → l ≡ Found estimate → answer ≡ jobAnswer (planOdd width height d estimate (oddLength estimate))
+      → answer ≡ jobAnswer (planLength width height d (lengthIn m))
+  plan-found f g is = rw (f, g) is
 
-  pub plan-found : {n : ℕ} {m : LengthAnswer} {l : LineLength} {estimate : Float} {answer : JobAnswer} → n ≡ 0
-      → m ≡ answered.Length l → l ≡ Found estimate
-      → answer ≡ jobAnswer (planOdd width height d estimate (oddLength estimate))
-      → answer ≡ jobAnswer (unless n (planLength width height d (lengthIn m)))
-  plan-found e f g is = rw (e, f, g) is
-
-  pub plan-from-done : (n : ℕ) (l : LineLength) (result : JobResult)
+  plan-from-done : (n : ℕ) (l : LineLength) (result : JobResult)
       → unless n (planLength width height d l) ≡ accepts result
       → (n ≡ 0) × Measured width height l result
   plan-from-done n l result e =

@@ -13,7 +13,7 @@
 --   image    pixel_of, row_of                                 image/specs/Picture: pixelOf, rowOf
 --   raster   RasterDirection4::from_angle, step, index        raster/specs/Direction: fromAngle, stepOf, directionIndex
 --   tensor   estimate_line_direction                          tensor/specs/Tensor: directionDecision
---   blur     estimate_along, estimate_at                      blur/specs/Length: LengthMeasured
+--   blur     estimate_along                                   blur/specs/Length: LengthMeasured
 --   blur     estimate_line_length, estimate_line_length_with  blur/specs/Length: LengthMeasured
 --   deblur   van_cittert_line_into                            deblur/specs/Calls: Filtered, at restorationOf
 --   deblur   directional_unsharp_line_into                    deblur/specs/Calls: Filtered, at unsharpOf

@@ -11,7 +11,7 @@ use lib.Ieee.{Float}
 use lib.ListN.{length}
 use Rattle.numbers.specs.Scalar.{clampByte}
 use Rattle.numbers.specs.Written.{Painted}
-use Rattle.floats.specs.Factor.{within, roundedQ16}
+use Rattle.floats.specs.Factor.{maxRelaxation, within, roundedQ16}
 use Rattle.floats.specs.Odd.{oddLength}
 use Rattle.floats.specs.declared.OddLength.{OddLength}
 use Rattle.floats.specs.declared.OddLength.the-variants.{Length, Beyond}
@@ -26,10 +26,9 @@ use Rattle.blur.specs.declared.length.LineLength.{LineLength}
 use Rattle.blur.specs.declared.length.LineLength.the-variants.{Found, Nothing}
 use Rattle.swings.specs.declared.Swing.{Swing}
 use Rattle.line.specs.declared.kernel.LineKernel.{LineKernel}
+use Rattle.line.specs.Kernel.{maxBlurLength}
 use Rattle.deblur.specs.Picture.{estimate}
 use Rattle.deblur.specs.Refusal.{
-  maxBlurLength,
-  maxRelaxation,
   scratchNeeded,
   iteratedRefusal,
   scratchShort,

@@ -3,7 +3,7 @@ use Prim.Native.Nat.{ℕ}
 use mathlib.Core.List.{List}
 use mathlib.Core.Path.{_≡_}
 use lib.IntN.{ℤ}
-use Rattle.image.specs.Call.{Gray8, unless, Outcome}
+use Rattle.image.specs.Call.{Gray8, Outcome}
 use Rattle.raster.specs.declared.direction.RasterDirection4.{RasterDirection4}
 use Rattle.blur.specs.declared.length.LengthAnswer.{LengthAnswer}
 use Rattle.blur.specs.declared.length.LengthAnswer.the-variants as answer
@@ -14,23 +14,19 @@ use Rattle.job.specs.declared.JobAnswer.{JobAnswer}
 use Rattle.job.specs.declared.plan.JobStart.{JobStart}
 use Rattle.job.specs.Job.{Job, jobRefusal, jobDirection, planLength, jobAnswer, jobWrites}
 
--- the refusal of a job, and what is measured where there is none; else a picture of no columns, which the length call
--- refuses
+-- the refusal of a job, and the direction of one that is not refused
 pub record JobStarts (j : Job) (start : JobStart) : Type 0 where
   pub refusal-is : start .refusal ≡ jobRefusal j
   pub direction-is : jobRefusal j ≡ 0 → start .direction ≡ jobDirection j
-  pub width-is : jobRefusal j ≡ 0 → start .width ≡ j .source .width
-  pub width-none : (jobRefusal j ≡ 0 → ⊥) → start .width ≡ 0
 
 -- the length of an answer; a refused one has none
 abbrev pub lengthIn : LengthAnswer → LineLength
 lengthIn (answer.Length l) = l
 lengthIn (answer.Refused number) = Nothing
 
--- the end of a job: what refusal, direction and length come to, and what is written of it
-abbrev pub Finished : ℕ → RasterDirection4 → LineLength → Gray8 → Gray8 → List ℕ → JobConfig
-    → List ℤ → List ℤ → JobAnswer
+-- the end of a job that is not refused before it is measured: what direction and length come to, and what is written
+abbrev pub Finished : RasterDirection4 → LineLength → Gray8 → Gray8 → List ℕ → JobConfig → List ℤ → List ℤ → JobAnswer
     → Type 0
-Finished refusal d l src dst new config scratch scratch′ answer =
-    Outcome (unless refusal (planLength (src .width) (src .height) d l)) jobAnswer (jobWrites src (dst .stride) config)
-    (dst .bytes) new scratch scratch′ answer
+Finished d l src dst new config scratch scratch′ answer =
+    Outcome (planLength (src .width) (src .height) d l) jobAnswer (jobWrites src (dst .stride) config) (dst .bytes) new
+    scratch scratch′ answer

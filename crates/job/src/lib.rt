@@ -3,6 +3,7 @@ ghost use mathlib.Core.Path.{_≡_};
 ghost use Rattle.image.specs.Call.{gray8};
 ghost use Rattle.job.specs.Job.{jobDefault, Restored};
 use crate::finish::finish;
+use crate::plan::refused;
 use crate::plan::start_job;
 use blur::length::LineLengthConfig;
 use blur::length::estimate_along;
@@ -87,9 +88,12 @@ pub fn restore(
         scratch.len(),
         swings.len(),
     );
+    if start.refusal != 0 {
+        return refused(start.refusal);
+    }
     let measured = estimate_along(
         data,
-        start.width,
+        width,
         height,
         stride,
         start.direction,
@@ -98,7 +102,6 @@ pub fn restore(
         swings,
     );
     finish(
-        start,
         data,
         width,
         height,
@@ -108,6 +111,7 @@ pub fn restore(
         dst_height,
         dst_stride,
         config,
+        start.direction,
         measured,
         scratch,
     )

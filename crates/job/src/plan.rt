@@ -1,7 +1,7 @@
 // What a job comes to: its refusals, the direction of its picture, and the length that an estimate gives.
 ghost use mathlib.Core.Path.{_≡_};
 ghost use Rattle.floats.specs.Odd.{oddLength};
-ghost use Rattle.image.specs.Call.{gray8, unless};
+ghost use Rattle.image.specs.Call.{gray8};
 ghost use Rattle.raster.specs.Lines.{Sides};
 ghost use Rattle.job.specs.Job.{layout, jobOf, jobRefusal, planOdd, planLength, jobAnswer};
 ghost use Rattle.job.specs.Parts.{lengthIn, JobStarts};
@@ -19,12 +19,10 @@ use image::pair_refusal;
 use raster::direction::RasterDirection4;
 use tensor::direction::DirectionAnswer;
 
-// What a job starts with: a refusal, 1 to 10, or 0; the direction of an accepted job's picture; and the width of what
-// is measured, which is the picture's for an accepted job, and else 0, for which nothing is written.
+// What a job starts with: a refusal, 1 to 10, or 0, and the direction of the picture of one that is not refused.
 pub struct JobStart {
     pub refusal: u8,
     pub direction: RasterDirection4,
-    pub width: usize,
 }
 
 // Refusals 1 to 6 and 8 to 10.
@@ -64,7 +62,7 @@ fn job_refusal(
     first_refusal(settings, lent_refusal(scratch_short | swings_short))
 }
 
-// The refusal, and what is to be measured.
+// The refusal, and the direction to measure along.
 pub(crate) fn start_job(
     data: &[u8],
     width: usize,
@@ -98,7 +96,6 @@ pub(crate) fn start_job(
     let none = JobStart {
         refusal,
         direction: RasterDirection4::Horizontal,
-        width: 0,
     };
     if refusal != 0 {
         return none;
@@ -106,11 +103,7 @@ pub(crate) fn start_job(
     match tensor::estimate_line_direction(data, width, height, stride) {
         DirectionAnswer::Direction(e) => {
             let direction = e.direction;
-            JobStart {
-                refusal,
-                direction,
-                width,
-            }
+            JobStart { refusal, direction }
         }
         DirectionAnswer::Refused(_) => none,
     }
@@ -143,22 +136,16 @@ fn plan_estimate(
     }
 }
 
-// The refusal so far, 11, 12, or what the job runs with.
+// 11, 12, or what the job runs with.
 pub(crate) fn plan_job(
-    start: JobStart,
+    direction: RasterDirection4,
     width: usize,
     height: usize,
     measured: LengthAnswer,
 ) -> JobAnswer
-    requires { ⌜ (start .refusal ≡ 0 → Sides width height) ⌝ }
-    ensures { λ r. ⌜ r ≡ jobAnswer (unless (start .refusal)
-        (planLength width height (start .direction) (lengthIn measured))) ⌝ }
+    requires { ⌜ Sides width height ⌝ }
+    ensures { λ r. ⌜ r ≡ jobAnswer (planLength width height direction (lengthIn measured)) ⌝ }
 {
-    let number = start.refusal;
-    if number != 0 {
-        return JobAnswer::Refused(number);
-    }
-    let direction = start.direction;
     match measured {
         LengthAnswer::Length(found) => match found {
             LineLength::Found(estimate) => plan_estimate(width, height, direction, estimate),
@@ -166,4 +153,10 @@ pub(crate) fn plan_job(
         },
         LengthAnswer::Refused(_) => JobAnswer::Refused(11),
     }
+}
+
+pub(crate) fn refused(number: u8) -> JobAnswer
+    ensures { λ r. ⌜ r ≡ JobAnswer.Refused number ⌝ }
+{
+    JobAnswer::Refused(number)
 }

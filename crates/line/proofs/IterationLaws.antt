@@ -11,7 +11,9 @@ use lib.IntN.{ℤ, pos, natAbs, _-ℤ_, _*ℤ_}
 use lib.Signed.{shrZ, quotZ}
 use Rattle.numbers.proofs.Int.Size.{natAbs-add, natAbs-sub, natAbs-mul, natAbs-quot, natAbs-shr}
 use Rattle.numbers.proofs.Nat.{two-pow-more}
+use Rattle.floats.specs.Factor.{scale, maxGain}
 use Rattle.line.specs.Iteration.{Window, mean, stepFrom, stepped, after}
+use Rattle.line.specs.Kernel.{maxIterations}
 
 module _ {P : Type 0} (W : Window P) (taps : ℕ) where
   pub mean-is : (y : P → ℤ) (p : P) → mean W taps y p ≡ shrZ (W y p) taps
@@ -50,10 +52,10 @@ pub record LawfulWindow {P : Type 0} (On : P → Type 0) (W : Window P) (taps : 
   pub within : (y : P → ℤ) (B : ℕ) → Bounded On B y → 255 ≤ B → (p : P) → natAbs (W y p) ≤ taps * B
 
 -- the step's quotient, for q ≤ g × 65,536
-residual-within : (x : ℤ) (q g : ℕ) → q ≤ g * 65536 → natAbs (quotZ (x *ℤ pos q) (pos 65536)) ≤ natAbs x * g
+residual-within : (x : ℤ) (q g : ℕ) → q ≤ g * scale → natAbs (quotZ (x *ℤ pos q) (pos scale)) ≤ natAbs x * g
 residual-within x q g h =
-    rw (natAbs-quot (x *ℤ pos q) (pos 65536), natAbs-mul x (pos q))
-    (div-le-of-le-mul 65536 (omega (arith, mul-le-mul-left (natAbs x) h)))
+    rw (natAbs-quot (x *ℤ pos q) (pos scale), natAbs-mul x (pos q))
+    (div-le-of-le-mul scale (omega (arith, mul-le-mul-left (natAbs x) h)))
 
 module _ {P : Type 0} {On : P → Type 0} {W : Window P} {taps : ℕ} (l : LawfulWindow On W taps) where
   pub mean-same : (y z : P → ℤ) → Same On y z → (p : P) → mean W taps y p ≡ mean W taps z p
@@ -82,7 +84,7 @@ module _ {P : Type 0} {On : P → Type 0} {W : Window P} {taps : ℕ} (l : Lawfu
 
   module _ (b : P → ℤ) (bytes : Bounded On 255 b) where
     -- with a factor up to g
-    stepped-by : (q g : ℕ) → q ≤ g * 65536 → (y : P → ℤ) (B : ℕ) → Bounded On B y → 255 ≤ B
+    stepped-by : (q g : ℕ) → q ≤ g * scale → (y : P → ℤ) (B : ℕ) → Bounded On B y → 255 ≤ B
         → Bounded On (B + (255 + B) * g) (stepped W taps b q y)
     stepped-by q g h y B bound byte p i =
         let m = mean W taps y p in
@@ -91,22 +93,22 @@ module _ {P : Type 0} {On : P → Type 0} {W : Window P} {taps : ℕ} (l : Lawfu
         rw (stepped-is W taps b q y p)
         (omega (
           arith,
-          natAbs-add (y p) (quotZ (r *ℤ pos q) (pos 65536)),
+          natAbs-add (y p) (quotZ (r *ℤ pos q) (pos scale)),
           bound p i,
           residual-within r q g h,
           mul-le-mul-right g small,
         ))
 
     -- relaxation, at most 1
-    stepped-within : (q : ℕ) → q ≤ 65536 → (y : P → ℤ) (B : ℕ) → Bounded On B y → 255 ≤ B
+    stepped-within : (q : ℕ) → q ≤ scale → (y : P → ℤ) (B : ℕ) → Bounded On B y → 255 ≤ B
         → Bounded On (2 * B + 255) (stepped W taps b q y)
     stepped-within q h y B bound byte p i = omega (arith, stepped-by q 1 (omega arith) y B bound byte p i)
 
     -- gain, at most 8, in one step from bytes
-    pub unsharp-within : (q : ℕ) → q ≤ 524288 → Bounded On 4335 (stepped W taps b q b)
+    pub unsharp-within : (q : ℕ) → q ≤ maxGain * scale → Bounded On 4335 (stepped W taps b q b)
     unsharp-within q h p i = omega (arith, stepped-by q 8 (omega arith) b 255 bytes (le-refl 255) p i)
 
-    module _ (q : ℕ) (h : q ≤ 65536) where
+    module _ (q : ℕ) (h : q ≤ scale) where
       pub after-within : (k : ℕ) → Bounded On (255 * (2 ^ (k + 1) - 1)) (after W taps b q k)
       after-within zero p i = rw (after-zero W taps b q p) (bytes p i)
       after-within (suc k) p i =
@@ -128,5 +130,5 @@ module _ {P : Type 0} {On : P → Type 0} {W : Window P} {taps : ℕ} (l : Lawfu
           omega (arith, after-within k p i, more)
 
       -- 22 iterations: 255 × (2^23 − 1), below 2^31
-      pub after-fits : (k : ℕ) → k ≤ 22 → Bounded On 2139094785 (after W taps b q k)
-      after-fits = after-most 22
+      pub after-fits : (k : ℕ) → k ≤ maxIterations → Bounded On 2139094785 (after W taps b q k)
+      after-fits = after-most maxIterations

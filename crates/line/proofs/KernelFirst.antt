@@ -2,44 +2,26 @@
 -- (`periodic-window`).
 use mathlib.Core.Path.{_≡_, sym, ap, ap₂, _∙_}
 use mathlib.Core.List.{List}
-use Prim.Native.Nat.{ℕ, zero, suc, _+_, _-_, _*_, _/_, _≤_, _<_, min}
-use native.Mathlib.Nat.{le-trans, mul-le-mul, suc-mul, zero-mul, zero-add}
+use Prim.Native.Nat.{ℕ, suc, _+_, _-_, _*_, _/_, _≤_, _<_, min}
+use native.Mathlib.Nat.{le-trans, mul-le-mul}
 use native.Mathlib.Omega.{arith}
-use lib.IntN.{ℤ, pos, negsuc, natAbs, subℕ, _+ℤ_, _*ℤ_, +ℤ-assoc, +ℤ-comm, +ℤ-idl, zero-*ℤ}
+use lib.IntN.{ℤ, pos, negsuc, natAbs, subℕ, _+ℤ_, _*ℤ_}
 use mir.Syntax.{w64}
 use mir.Val.{SFits}
 use Rattle.numbers.specs.Sum.{total}
 use Rattle.numbers.proofs.Int.Machine.{sfits-add}
 use Rattle.numbers.proofs.Int.Size.{natAbs-mul}
-use Rattle.numbers.proofs.Int.Ring.{suc-*ℤ, subℕ-add, subℕ-neg, subℕ-pos}
-use Rattle.numbers.proofs.Sum.{total-same, total-const, total-shift, total-split, total-within}
+use Rattle.numbers.proofs.Int.Ring.{subℕ-add, subℕ-neg, subℕ-pos}
+use Rattle.numbers.proofs.Sum.{total-same, total-const, total-shift, total-split, total-within, total-periods}
+use Rattle.image.specs.Refusal.{maxSide}
 use Rattle.line.specs.declared.mean.MeanSettings.{MeanSettings}
 use Rattle.line.specs.Line.{fromSource}
 use Rattle.line.specs.Kernel.{lineAt, largest, MeanAsked, mapOf, windowAt, sampleAt, opening}
-use Rattle.line.specs.Kernel.{FlatBorder, PeriodicBorder}
+use Rattle.line.specs.Kernel.{longestBlur, FlatBorder, PeriodicBorder}
 use Rattle.line.proofs.LineLaws.{sample-is, sample-at}
 use Rattle.line.proofs.LineWindow.{sample-within}
 use Rattle.line.proofs.KernelSum.{largest-byte, largest-most}
 use Rattle.line.proofs.KernelMean.{lawful, opening-whole}
-
--- ---- a sum that comes again
-
-total-periods : (g : ℕ → ℤ) (m : ℕ) → ((u : ℕ) → g (u + m) ≡ g u) → (k r : ℕ)
-    → total g 0 (k * m + r) ≡ pos k *ℤ total g 0 m +ℤ total g 0 r
-total-periods g m again zero r =
-    ap (total g 0) (rw (zero-mul m) (zero-add r))
-    ∙ sym (ap (_+ℤ total g 0 r) (zero-*ℤ (total g 0 m)) ∙ +ℤ-idl (total g 0 r))
-total-periods g m again (suc k) r =
-    let e : suc k * m + r ≡ m + (k * m + r) = omega (arith, suc-mul k m) in
-    let t = total g 0 m in
-    ap (total g 0) e
-    ∙ total-split g 0 m (k * m + r)
-    ∙ ap (t +ℤ_)
-    (sym (total-shift g 0 m (k * m + r))
-    ∙ total-same (λ i. g (i + m)) g 0 (k * m + r) (λ i _ _. again i)
-    ∙ total-periods g m again k r)
-    ∙ sym (+ℤ-assoc t (pos k *ℤ t) (total g 0 r))
-    ∙ ap (_+ℤ total g 0 r) (+ℤ-comm t (pos k *ℤ t) ∙ sym (suc-*ℤ k t))
 
 module _ (s : MeanSettings) {xs : List ℤ} (A : MeanAsked s xs) where
   abbrev half : ℕ
@@ -60,19 +42,19 @@ module _ (s : MeanSettings) {xs : List ℤ} (A : MeanAsked s xs) where
       in
       sym (total-periods (sampleAt s xs) period again whole rest) ∙ ap (opening s xs) (sym e) ∙ opening-whole s xs
 
-  piece-size : (k u : ℕ) → k ≤ 2049 → natAbs (pos k *ℤ sampleAt s xs u) ≤ 2191502345985
+  piece-size : (k u : ℕ) → k ≤ longestBlur → natAbs (pos k *ℤ sampleAt s xs u) ≤ 2191502345985
   piece-size k u h =
       let r = s .reciprocal in
       let small = sample-within (lawful s A) (lineAt (s .n) xs) (largest r) (A .small) (largest-byte r) (subℕ u half) in
       rw (natAbs-mul (pos k) (sampleAt s xs u))
-      (mul-le-mul {n₂ = 2049} {m₂ = 1069547265} h (le-trans small (largest-most r)))
+      (mul-le-mul {n₂ = longestBlur} {m₂ = 1069547265} h (le-trans small (largest-most r)))
 
   line-size : (k : ℕ) → k ≤ s .n → natAbs (total (lineAt (s .n) xs) 0 k) ≤ 1095216399360
   line-size k h =
       omega (
         arith,
         total-within (lineAt (s .n) xs) 0 k (largest (s .reciprocal)) (λ i _ l. A .small i (omega arith)),
-        mul-le-mul {n₁ = k} {n₂ = 1024} (omega (arith, A .short)) (largest-most (s .reciprocal)),
+        mul-le-mul {n₁ = k} {n₂ = maxSide} (omega (arith, A .short)) (largest-most (s .reciprocal)),
       )
 
   -- what is before the line and on it

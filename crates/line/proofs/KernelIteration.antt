@@ -14,13 +14,15 @@ use lib.ListN.{length, getD}
 use Rattle.numbers.proofs.Places.{part-iff, part-before}
 use Rattle.numbers.proofs.Test.{by-test}
 use Rattle.numbers.proofs.Written.{written-kept}
+use Rattle.floats.specs.Factor.{scale}
+use Rattle.image.specs.Refusal.{maxSide}
 use Rattle.raster.specs.Border.{borderMap, borderValue, Lawful}
 use Rattle.raster.proofs.BorderMap.{border-lawful}
 use Rattle.line.specs.declared.kernel.LineKernel.{LineKernel}
 use Rattle.line.specs.declared.mean.MeanSettings.{MeanSettings}
 use Rattle.line.specs.Iteration.{stepFrom}
 use Rattle.line.specs.Line.{window, mean}
-use Rattle.line.specs.Kernel.{KernelTaken, lineAt, estimateAfter, Gathered, Iterated, IterationAsked}
+use Rattle.line.specs.Kernel.{KernelAsked, lineAt, estimateAfter, Gathered, Iterated, IterationAsked}
 use Rattle.line.specs.Kernel.{largest, Reciprocal, MeanAsked, MeansWritten, StepAsked, LineStepped}
 use Rattle.line.proofs.IterationLaws.{LawfulWindow, stepped-is, after-zero, after-next, mean-same, stepped-same}
 use Rattle.line.proofs.IterationLaws.{mean-within, unsharp-within, after-most, after-fits}
@@ -46,7 +48,7 @@ module _ (K : LineKernel) (n : ℕ) (some : 1 ≤ n) (value : borderValue (K .bo
   lawful-window : LawfulWindow (_< n) sums L
   lawful-window = line-window lawful L
 
-  module _ (T : KernelTaken K) (short : n ≤ 1024) (b : ℕ → ℤ) (bytes : Bounded n 255 b) where
+  module _ (T : KernelAsked K) (short : n ≤ maxSide) (b : ℕ → ℤ) (bytes : Bounded n 255 b) where
     -- one step from bytes, with any gain
     unsharp-size : Bounded n 4335 (estimateAfter K n b (0 + 1))
     unsharp-size i p =
@@ -57,17 +59,17 @@ module _ (K : LineKernel) (n : ℕ) (some : 1 ≤ n) (value : borderValue (K .bo
 
     module _ {k : ℕ} (more : k < K .iterations) where
       -- the first estimate is bytes; a second iteration is that of a relaxation
-      by-count : {P : Type 0} → (k ≡ 0 → P) → (K .q ≤ 65536 → P) → P
+      by-count : {P : Type 0} → (k ≡ 0 → P) → (K .q ≤ scale → P) → P
       by-count first relaxed =
           by-test (ltb 1 (K .iterations))
           (λ t. relaxed (T .relaxation (ltb-true 1 (K .iterations) t)))
           (λ t. first (omega (arith, ltb-false 1 (K .iterations) t)))
 
-      relaxed-most : K .q ≤ 65536 → (most : ℕ) → k ≤ most
+      relaxed-most : K .q ≤ scale → (most : ℕ) → k ≤ most
           → Bounded n (255 * (2 ^ (most + 1) - 1)) (estimateAfter K n b k)
       relaxed-most h most = after-most lawful-window (T .long) b bytes (K .q) h most k
 
-      relaxed-size : (r : ℕ) → (0 < r → k < 10) → K .q ≤ 65536 → Bounded n (largest r) (estimateAfter K n b k)
+      relaxed-size : (r : ℕ) → (0 < r → k < 10) → K .q ≤ scale → Bounded n (largest r) (estimateAfter K n b k)
       relaxed-size zero early h i p = relaxed-most h 21 (omega (arith, T .iterated)) i p
       relaxed-size (suc r) early h i p = omega (arith, relaxed-most h 9 (omega (arith, early (omega arith))) i p)
 
@@ -171,7 +173,7 @@ module _ (K : LineKernel) (n : ℕ) (some : 1 ≤ n) (value : borderValue (K .bo
       let l = border-lawful (K .border) n some value in
       after-same l (lineAt 0 xs) b (I .observed) (K .q) (K .«blur_length») j
 
-  pub iteration-asked : n ≤ 1024 → 3 * n ≤ length xs → KernelTaken K → k < K .iterations → Bounded n 255 b
+  pub iteration-asked : n ≤ maxSide → 3 * n ≤ length xs → KernelAsked K → k < K .iterations → Bounded n 255 b
       → IterationAsked K n k xs
   iteration-asked short room taken more bytes =
       record {

@@ -17,14 +17,15 @@ use Rattle.numbers.proofs.Int.Order.{pos-≤ℤ}
 use Rattle.numbers.proofs.Int.Size.{natAbs-sub, natAbs-mul, sfits-size}
 use Rattle.numbers.proofs.Places.{part-before, part-after, part-none, part-next}
 use Rattle.numbers.proofs.Written.{written-none, written-set, written-kept}
+use Rattle.floats.specs.Factor.{scale}
 use Rattle.line.specs.Iteration.{stepFrom}
 use Rattle.line.specs.Kernel.{lineAt, SampleStepAsked, StepAsked, LineStepped}
 
 -- ---- relaxation 1, in 32 bits
 
-step-whole : (b m y : ℤ) → stepFrom 65536 b m y ≡ y +ℤ (b -ℤ m)
+step-whole : (b m y : ℤ) → stepFrom scale b m y ≡ y +ℤ (b -ℤ m)
 step-whole b m y =
-    ap (λ (z : ℤ). y +ℤ quotZ z (pos 65536)) (*ℤ-comm (b -ℤ m) (pos 65536))
+    ap (λ (z : ℤ). y +ℤ quotZ z (pos scale)) (*ℤ-comm (b -ℤ m) (pos scale))
     ∙ ap (y +ℤ_) (quot-exact (zero-lt-suc 65535) (b -ℤ m))
 
 -- the sum as it stands in the machine
@@ -32,7 +33,7 @@ abbrev wholeIn : ℤ → ℤ → ℤ → ℤ
 wholeIn b m y = toZ w32 (ofZ w32 y) +ℤ toZ w32 (ofZ w32 (toZ w32 (ofZ w32 b) -ℤ toZ w32 (ofZ w32 m)))
 
 module _ {y b m : ℤ} {q : ℕ} (fy : SFits w32 y) (fb : SFits w32 b) (fm : SFits w32 m) (S : SampleStepAsked y b m q)
-    (one : q ≡ 65536) where
+    (one : q ≡ scale) where
   whole-residual : toZ w32 (ofZ w32 b) -ℤ toZ w32 (ofZ w32 m) ≡ b -ℤ m
   whole-residual = ap₂ _-ℤ_ (toZ-ofZ fb) (toZ-ofZ fm)
 
@@ -58,7 +59,7 @@ module _ {y b m : ℤ} {q : ℕ} (fy : SFits w32 y) (fb : SFits w32 b) (fm : SFi
 
 -- the quotient there
 abbrev quotientIn : ℕ → ℤ → ℤ → ℤ
-quotientIn q xb xm = quotZ (toZ w64 (ofZ w64 (toZ w64 (ofZ w64 (xb -ℤ xm)) *ℤ toZ w64 q))) (pos 65536)
+quotientIn q xb xm = quotZ (toZ w64 (ofZ w64 (toZ w64 (ofZ w64 (xb -ℤ xm)) *ℤ toZ w64 q))) (pos scale)
 
 module _ {xb xm xy b m y : ℤ} {q : ℕ} (S : SampleStepAsked y b m q) (eb : xb ≡ b) (em : xm ≡ m) (ey : xy ≡ y) where
   residual : xb -ℤ xm ≡ b -ℤ m
@@ -82,13 +83,13 @@ module _ {xb xm xy b m y : ℤ} {q : ℕ} (S : SampleStepAsked y b m q) (eb : xb
   pub cut-muls : SFits w64 (toZ w64 (ofZ w64 (xb -ℤ xm)) *ℤ toZ w64 q)
   cut-muls = fits-as product product-fits
 
-  quotient : quotientIn q xb xm ≡ quotZ ((b -ℤ m) *ℤ pos q) (pos 65536)
-  quotient = ap (λ (z : ℤ). quotZ z (pos 65536)) (held product product-fits)
+  quotient : quotientIn q xb xm ≡ quotZ ((b -ℤ m) *ℤ pos q) (pos scale)
+  quotient = ap (λ (z : ℤ). quotZ z (pos scale)) (held product product-fits)
 
-  quotient-fits : SFits w64 (quotZ ((b -ℤ m) *ℤ pos q) (pos 65536))
+  quotient-fits : SFits w64 (quotZ ((b -ℤ m) *ℤ pos q) (pos scale))
   quotient-fits = sfits-quot (pos-≤ℤ (omega arith)) product-fits
 
-  pub cut-divides : (0 < 65536) × SFits w64 (quotientIn q xb xm)
+  pub cut-divides : (0 < scale) × SFits w64 (quotientIn q xb xm)
   cut-divides = (omega arith, fits-as quotient quotient-fits)
 
   sum : xy +ℤ toZ w64 (ofZ w64 (quotientIn q xb xm)) ≡ stepFrom q b m y

@@ -6,20 +6,20 @@ use native.Mathlib.Nat.{mul-comm, mul-le-mul-right, mul-le-mul, mul-div-le, div-
 use native.Mathlib.Numerals.{add-one}
 use native.Mathlib.Omega.{arith}
 use lib.Dec.{T}
-use lib.IntN.{ℤ, pos, negsuc, natAbs, _+ℤ_, _-ℤ_, _*ℤ_, +ℤ-idr}
+use lib.IntN.{ℤ, pos, natAbs, _+ℤ_, _-ℤ_, _*ℤ_, +ℤ-idr}
 use lib.Signed.{_≤ℤ_, nonNeg, shrZ}
 use mir.Syntax.{Width, w32, w64}
 use mir.Val.{Fits, SFits, toZ, ofZ}
 use mir.Facts.{toZ-ofZ, toZ-pos, sfits-widen}
 use Rattle.numbers.specs.Sum.{total}
 use Rattle.numbers.proofs.Sum.{total-next}
-use Rattle.line.specs.Kernel.{largest}
+use Rattle.line.specs.Kernel.{longestBlur, largest}
 use Rattle.numbers.proofs.Nat.{div-by-mul}
 use Rattle.numbers.proofs.Int.Divide.{shr-by-mul}
 use Rattle.numbers.proofs.Int.Linear.{linear, up-add, natAbs-up-dn}
 use Rattle.numbers.proofs.Int.Machine.{fits-as, held, sfits-sub, cast-unsigned}
 use Rattle.numbers.proofs.Int.Ring.{add-sub-assoc}
-use Rattle.numbers.proofs.Int.Size.{natAbs-add, natAbs-shr, sfits-size, size-sfits}
+use Rattle.numbers.proofs.Int.Size.{natAbs-add, natAbs-shr, natAbs-pos, sfits-size, size-sfits}
 
 -- what a call gives, read back
 pub told : {w : Width} {x z : ℤ} → SFits w x → x ≡ z → toZ w (ofZ w x) ≡ z
@@ -70,10 +70,6 @@ total-on g i {sum} {x} d e =
 
 -- ---- divided by a multiplication
 
-nonNeg-pos : (z : ℤ) → pos 0 ≤ℤ z → pos (natAbs z) ≡ z
-nonNeg-pos (pos n) h = refl
-nonNeg-pos (negsuc n) h = absurd (h .le)
-
 -- the raised sum as it stands in the machine
 abbrev raisedIn : ℤ → ℤ → ℤ
 raisedIn z a = toZ w64 (ofZ w64 (toZ w64 (ofZ w64 z) +ℤ toZ w64 (ofZ w64 (toZ w64 (ofZ w64 a) *ℤ pos 262144))))
@@ -84,7 +80,7 @@ pub record Dividing (z a : ℤ) (L r : ℕ) : Type 0 where
   pub length-fits : SFits w64 a
   pub is : a ≡ pos L
   pub long : 1 ≤ L
-  pub bounded : L ≤ 2049
+  pub bounded : L ≤ longestBlur
   pub units : r ≡ 4398046511104 / L + 1
   pub small : natAbs z ≤ L * 262144
 
@@ -125,7 +121,7 @@ module _ {z a : ℤ} {L r : ℕ} (d : Dividing z a L r) where
   -- L² × 2^19 < 2^42
   square : natAbs (raisedIn z a) * L < 4398046511104
   square =
-      let most = mul-le-mul {n₁ = L} {m₁ = L} {n₂ = 2049} {m₂ = 2049} (d .bounded) (d .bounded) in
+      let most = mul-le-mul {n₁ = L} {m₁ = L} {n₂ = longestBlur} {m₂ = longestBlur} (d .bounded) (d .bounded) in
       omega (arith, mul-le-mul-right L size, most)
 
   pub quotient-fits : Fits w64 (natAbs (raisedIn z a) * r)
@@ -146,7 +142,7 @@ module _ {z a : ℤ} {L r : ℕ} (d : Dividing z a L r) where
   floored =
       let sum : pos (natAbs (raisedIn z a)) ≡ z +ℤ pos (262144 * L) =
       ap (λ (y : ℤ). pos (natAbs y)) raised-is
-      ∙ nonNeg-pos (z +ℤ pos (L * 262144)) raised-≥
+      ∙ natAbs-pos (z +ℤ pos (L * 262144)) raised-≥
       ∙ ap (λ (k : ℕ). z +ℤ pos k) (mul-comm L 262144)
       in
       ap (_-ℤ pos 262144)

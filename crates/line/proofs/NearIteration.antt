@@ -15,6 +15,7 @@ use Rattle.numbers.proofs.Int.Ring.{z-ind, zring, ⊖-same, *ℤ-add, one-*ℤ,
 use Rattle.numbers.proofs.Int.Linear.{up, dn, linear, up-add, up-sub, natAbs-up-dn, up-or-dn}
 use Rattle.numbers.proofs.Int.Divide.{shr-low, shr-high, quot-near, quot-exact}
 use Rattle.numbers.proofs.Int.Size.{natAbs-add, natAbs-sub, natAbs-mul}
+use Rattle.floats.specs.Factor.{scale}
 use Rattle.line.specs.Iteration.{Window, mean, stepped, after}
 use Rattle.line.specs.Exact.{scaleOf, exact, valueAfter}
 use Rattle.line.specs.Near.{Near, bound, boundAtOne}
@@ -87,10 +88,10 @@ Close s d y N = (p : _) → natAbs (pos s *ℤ y p -ℤ N p) ≤ d * s
 module _ {P : Type 0} (W : Window P) (E : ℕ → Window P) (taps : ℕ) (some : 0 < taps)
     (window-near : (y N : P → ℤ) (s d : ℕ) → Close s d y N → (p : P)
     → natAbs (pos s *ℤ W y p -ℤ E s N p) ≤ taps * (d * s))
-    (b : P → ℤ) (q : ℕ) (small : q ≤ 65536) where
+    (b : P → ℤ) (q : ℕ) (small : q ≤ scale) where
   -- what the quotient cuts off a residual
   abbrev lost : ℤ → ℕ
-  lost r = natAbs (r *ℤ pos q -ℤ pos 65536 *ℤ quotZ (r *ℤ pos q) (pos 65536))
+  lost r = natAbs (r *ℤ pos q -ℤ pos scale *ℤ quotZ (r *ℤ pos q) (pos scale))
 
   -- one step
   module _ (y N : P → ℤ) (s d : ℕ) (close : Close s d y N) (p : P) where
@@ -101,7 +102,7 @@ module _ {P : Type 0} (W : Window P) (E : ℕ → Window P) (taps : ℕ) (some :
     exactResidual = pos (taps * s) *ℤ b p -ℤ E s N p
 
     abbrev quotient : ℤ
-    quotient = quotZ (residual *ℤ pos q) (pos 65536)
+    quotient = quotZ (residual *ℤ pos q) (pos scale)
 
     -- the mean's error
     residual-near : natAbs (pos (taps * s) *ℤ residual -ℤ exactResidual) + s ≤ taps * s + taps * (d * s)
@@ -121,12 +122,12 @@ module _ {P : Type 0} (W : Window P) (E : ℕ → Window P) (taps : ℕ) (some :
 
     module _ (e : ℕ) (cuts : lost residual ≤ e) where
       -- with the quotient's error
-      gain-near : natAbs (pos (scaleOf taps * s) *ℤ quotient -ℤ pos q *ℤ exactResidual) + 65536 * s
-          ≤ 65536 * (taps * s + taps * (d * s)) + taps * s * e
+      gain-near : natAbs (pos (scaleOf taps * s) *ℤ quotient -ℤ pos q *ℤ exactResidual) + scale * s
+          ≤ scale * (taps * s + taps * (d * s)) + taps * s * e
       gain-near =
           let x = pos (taps * s) *ℤ residual -ℤ exactResidual in
-          let r = residual *ℤ pos q -ℤ pos 65536 *ℤ quotient in
-          rw (gain-apart 65536 taps s q residual quotient exactResidual)
+          let r = residual *ℤ pos q -ℤ pos scale *ℤ quotient in
+          rw (gain-apart scale taps s q residual quotient exactResidual)
           (omega (
             arith,
             natAbs-sub (pos q *ℤ x) (pos (taps * s) *ℤ r),
@@ -137,7 +138,7 @@ module _ {P : Type 0} (W : Window P) (E : ℕ → Window P) (taps : ℕ) (some :
             mul-le-mul-left (taps * s) cuts,
           ))
 
-      step-near : (g : ℕ) → e + 65536 ≤ 65536 * g → 0 < s
+      step-near : (g : ℕ) → e + scale ≤ scale * g → 0 < s
           → natAbs (pos (scaleOf taps * s) *ℤ stepped W taps b q y p
           -ℤ (pos (scaleOf taps) *ℤ N p +ℤ pos q *ℤ exactResidual))
           < (2 * d + g) * (scaleOf taps * s)
@@ -159,7 +160,7 @@ module _ {P : Type 0} (W : Window P) (E : ℕ → Window P) (taps : ℕ) (some :
   abbrev apart : ℕ → P → ℕ
   apart k p = natAbs (pos (scaleOf taps ^ k) *ℤ after W taps b q k p -ℤ exact E taps b q k p)
 
-  module _ (e g : ℕ) (room : e + 65536 ≤ 65536 * g) (cuts : (r : ℤ) → lost r ≤ e)
+  module _ (e g : ℕ) (room : e + scale ≤ scale * g) (cuts : (r : ℤ) → lost r ≤ e)
       (D : ℕ → ℕ) (grows : (k : ℕ) → 2 * D k + g ≤ D (suc k)) where
     after-step : (k : ℕ) → ((p : P) → apart k p ≤ D k * scaleOf taps ^ k) → (p : P)
         → apart (suc k) p < D (suc k) * scaleOf taps ^ suc k
@@ -184,12 +185,12 @@ module _ {P : Type 0} (W : Window P) (E : ℕ → Window P) (taps : ℕ) (some :
 
   -- less than 1, and at relaxation 1 nothing
   cut-error : (r : ℤ) → lost r ≤ 65535
-  cut-error r = omega (arith, quot-near (r *ℤ pos q) {d = 65536} (omega arith))
+  cut-error r = omega (arith, quot-near (r *ℤ pos q) {d = scale} (omega arith))
 
-  no-error : q ≡ 65536 → (r : ℤ) → lost r ≤ 0
+  no-error : q ≡ scale → (r : ℤ) → lost r ≤ 0
   no-error one r =
-      let e : r *ℤ pos q ≡ pos 65536 *ℤ r = ap (λ (j : ℕ). r *ℤ pos j) one ∙ *ℤ-comm r (pos 65536) in
-      rw (e, quot-exact {d = 65536} (omega arith) r, -ℤ-self (pos 65536 *ℤ r)) zero-le
+      let e : r *ℤ pos q ≡ pos scale *ℤ r = ap (λ (j : ℕ). r *ℤ pos j) one ∙ *ℤ-comm r (pos scale) in
+      rw (e, quot-exact {d = scale} (omega arith) r, -ℤ-self (pos scale *ℤ r)) zero-le
 
   pub iteration-near : (k : ℕ) (p : P) → 1 ≤ k
       → Near q k (after W taps b q k p) (valueAfter taps k (exact E taps b q k p))

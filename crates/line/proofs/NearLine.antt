@@ -1,13 +1,13 @@
 -- The working run along a line lies near the exact one, for every border map, source, place, L ≥ 1 and q ≤ 65,536
 -- (`line-near`): samples that are near give windows that are near, whatever the border.
-use mathlib.Core.Path.{_≡_, ap, _∙_, subst}
+use mathlib.Core.Path.{_≡_}
 use Prim.Native.Nat.{ℕ, _+_, _*_, _/_, _≤_, _<_, zero-le}
 use native.Mathlib.Omega.{arith}
 use lib.IntN.{ℤ, pos, subℕ, natAbs, _-ℤ_, _*ℤ_}
-use Rattle.numbers.specs.Sum.{total}
 use Rattle.numbers.proofs.Int.Linear.{linear}
 use Rattle.numbers.proofs.Int.Ring.{ -ℤ-self}
-use Rattle.numbers.proofs.Sum.{total-scale, total-sub, total-within}
+use Rattle.numbers.proofs.Sum.{total-near}
+use Rattle.floats.specs.Factor.{scale}
 use Rattle.raster.specs.declared.border.BorderSample.{BorderSample}
 use Rattle.raster.specs.declared.border.BorderSample.the-variants.{Inside, Outside}
 use Rattle.line.specs.Line.{fromSource, sample, window, after}
@@ -15,14 +15,6 @@ use Rattle.line.specs.Exact.{valueAfter}
 use Rattle.line.specs.ExactLine.{exactSource, exactWindow, exact}
 use Rattle.line.specs.Near.{Near}
 use Rattle.line.proofs.NearIteration.{Close, iteration-near}
-
--- sums, term by term
-pub total-near : (f g : ℕ → ℤ) (s c k : ℕ) → ((u : ℕ) → natAbs (pos s *ℤ f u -ℤ g u) ≤ c)
-    → natAbs (pos s *ℤ total f 0 k -ℤ total g 0 k) ≤ k * c
-total-near f g s c k h =
-    subst (λ (z : ℤ). natAbs z ≤ k * c)
-    (total-sub (λ u. pos s *ℤ f u) g 0 k ∙ ap (_-ℤ total g 0 k) (total-scale (pos s) f 0 k))
-    (total-within (λ u. pos s *ℤ f u -ℤ g u) 0 k c (λ u _ _. h u))
 
 module _ (m : ℤ → BorderSample) (L : ℕ) where
   source-near : (y N : ℕ → ℤ) (s d : ℕ) → Close s d y N → (u : BorderSample)
@@ -41,6 +33,6 @@ module _ (m : ℤ → BorderSample) (L : ℕ) where
       total-near (λ u. fromSource y (place u)) (λ u. exactSource N s (place u)) s (d * s) L
       (λ u. source-near y N s d close (place u))
 
-  pub line-near : (b : ℕ → ℤ) (q : ℕ) → 0 < L → q ≤ 65536 → (k p : ℕ) → 1 ≤ k
+  pub line-near : (b : ℕ → ℤ) (q : ℕ) → 0 < L → q ≤ scale → (k p : ℕ) → 1 ≤ k
       → Near q k (after m b q L k p) (valueAfter L k (exact m b q L k p))
   line-near b q some small = iteration-near (window m L) (exactWindow m L) L some window-near b q small

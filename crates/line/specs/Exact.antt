@@ -2,11 +2,12 @@
 -- N(k+1) = S × Nk + q × (L × S^k × B − window sum of Nk)", where L is the number of taps.
 use Prim.Native.Nat.{ℕ, zero, suc, _*_, _^_}
 use lib.IntN.{ℤ, pos, _+ℤ_, _-ℤ_, _*ℤ_}
+use Rattle.floats.specs.Factor.{scale}
 use Rattle.line.specs.Iteration.{Window}
 
 -- S
 abbrev pub scaleOf : ℕ → ℕ
-scaleOf taps = 65536 * taps
+scaleOf taps = scale * taps
 
 -- Nk at place p. E power is the window sum of numerators over that power of S, S^k for those of Nk.
 unfoldable pub exact : {P : Type 0} → (ℕ → Window P) → ℕ → (P → ℤ) → ℕ → ℕ → P → ℤ

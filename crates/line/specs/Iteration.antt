@@ -4,6 +4,7 @@
 use Prim.Native.Nat.{ℕ, zero, suc}
 use lib.IntN.{ℤ, pos, _+ℤ_, _-ℤ_, _*ℤ_}
 use lib.Signed.{shrZ, quotZ}
+use Rattle.floats.specs.Factor.{scale}
 
 abbrev pub Window : Type 0 → Type 0
 Window P = (P → ℤ) → P → ℤ
@@ -14,7 +15,7 @@ mean W taps y p = shrZ (W y p) taps
 
 -- one step from y, with the observed b and the mean m: y + (b − m) × q / 65,536, the quotient cut toward zero
 abbrev pub stepFrom : ℕ → ℤ → ℤ → ℤ → ℤ
-stepFrom q b m y = y +ℤ quotZ ((b -ℤ m) *ℤ pos q) (pos 65536)
+stepFrom q b m y = y +ℤ quotZ ((b -ℤ m) *ℤ pos q) (pos scale)
 
 -- "Y(k+1) = Yk + (B − mean of Yk) × q / 65,536, the quotient cut toward zero"
 unfoldable pub stepped : {P : Type 0} → Window P → ℕ → (P → ℤ) → ℕ → (P → ℤ) → P → ℤ

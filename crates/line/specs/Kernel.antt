@@ -2,11 +2,13 @@
 -- three parts of n: the observed samples B at 0..n, the estimate Yk at n..2n, the mean of Yk at 2n..3n.
 use mathlib.Core.Path.{_≡_}
 use mathlib.Core.List.{List}
-use Prim.Native.Nat.{ℕ, zero, suc, _+_, _-_, _*_, _/_, _≤_, _<_}
+use Prim.Native.Nat.{ℕ, zero, suc, _+_, _-_, _*_, _/_, _≤_, _<_, max}
 use lib.IntN.{ℤ, pos, negsuc, natAbs, subℕ, _+ℤ_}
 use lib.ListN.{length, getD}
 use Rattle.numbers.specs.Sum.{total}
 use Rattle.numbers.specs.Written.{Written, part}
+use Rattle.floats.specs.Factor.{scale, maxRelaxation, maxGain}
+use Rattle.image.specs.Refusal.{maxSide}
 use Rattle.raster.specs.Border.{borderMap, borderValue}
 use Rattle.raster.specs.declared.border.BorderSample.{BorderSample}
 use Rattle.line.specs.declared.kernel.LineKernel.{LineKernel}
@@ -14,23 +16,35 @@ use Rattle.line.specs.declared.mean.MeanSettings.{MeanSettings}
 use Rattle.line.specs.Iteration.{stepFrom}
 use Rattle.line.specs.Line.{sample, window, mean, after}
 
+-- ---- the limits of a filter along lines
+
+abbrev pub maxIterations : ℕ
+maxIterations = 22
+
+-- the longest blur of a picture
+abbrev pub maxBlurLength : ℕ → ℕ → ℕ
+maxBlurLength width height = 2 * max width height + 1
+
+-- .. and of any picture
+abbrev pub longestBlur : ℕ
+longestBlur = maxBlurLength maxSide maxSide
+
 -- ---- one line
 
--- a line of 1 to 1,024 pixels, the first at start, each step behind the one before it, and three parts of scratch
-pub record LineLaid (dataLen start step n scratchLen : ℕ) : Type 0 where
+-- a line of 1 to `maxSide` pixels, the first at start, each step behind the one before it, and three parts of scratch
+pub record LineAsked (dataLen start step n scratchLen : ℕ) : Type 0 where
   pub some : 1 ≤ n
-  pub short : n ≤ 1024
+  pub short : n ≤ maxSide
   pub reached : start + (n - 1) * step < dataLen
   pub room : 3 * n ≤ scratchLen
 
--- The settings that the calls accept: a length up to 2,049 and at most 22 iterations; a relaxation is at most 1, a gain
--- at most 8 and of one iteration.
-pub record KernelTaken (k : LineKernel) : Type 0 where
+-- The settings that the calls accept. A gain is of one iteration.
+pub record KernelAsked (k : LineKernel) : Type 0 where
   pub long : 1 ≤ k .«blur_length»
-  pub bounded : k .«blur_length» ≤ 2049
-  pub iterated : k .iterations ≤ 22
-  pub gain : k .q ≤ 524288
-  pub relaxation : 1 < k .iterations → k .q ≤ 65536
+  pub bounded : k .«blur_length» ≤ longestBlur
+  pub iterated : k .iterations ≤ maxIterations
+  pub gain : k .q ≤ maxGain * scale
+  pub relaxation : 1 < k .iterations → k .q ≤ maxRelaxation * scale
 
 -- the samples of a line of bytes
 abbrev pub bytesOn : List ℕ → ℕ → ℕ → ℕ → ℤ
@@ -64,9 +78,9 @@ pub record Iterated (K : LineKernel) (n : ℕ) (b : ℕ → ℤ) (k : ℕ) (scra
 -- what iteration k + 1 asks: the observed samples are bytes, and the estimate is the one after k iterations from them
 pub record IterationAsked (K : LineKernel) (n k : ℕ) (scratch : List ℤ) : Type 0 where
   pub some : 1 ≤ n
-  pub short : n ≤ 1024
+  pub short : n ≤ maxSide
   pub room : 3 * n ≤ length scratch
-  pub taken : KernelTaken K
+  pub taken : KernelAsked K
   pub more : k < K .iterations
   pub bytes : (i : ℕ) → i < n → natAbs (lineAt 0 scratch i) ≤ 255
   pub iterated : Iterated K n (lineAt 0 scratch) k scratch
@@ -81,13 +95,13 @@ largest (suc r) = 262144
 
 pub record Reciprocal (L r : ℕ) : Type 0 where
   pub long : 1 ≤ L
-  pub bounded : L ≤ 2049
+  pub bounded : L ≤ longestBlur
   pub units : 0 < r → r ≡ 4398046511104 / L + 1
 
 -- a line in the scratch whose mean is taken
 pub record MeanAsked (s : MeanSettings) (scratch : List ℤ) : Type 0 where
   pub some : 1 ≤ s .n
-  pub short : s .n ≤ 1024
+  pub short : s .n ≤ maxSide
   pub room : 3 * s .n ≤ length scratch
   pub value : borderValue (s .border) ≤ 255
   pub divides : Reciprocal (s .«blur_length») (s .reciprocal)
@@ -130,12 +144,12 @@ pub record MeansWritten (s : MeanSettings) (a e : ℕ) (old new : List ℤ) : Ty
 pub record SampleStepAsked (y b m : ℤ) (q : ℕ) : Type 0 where
   pub byte : natAbs b ≤ 255
   pub small : natAbs m ≤ 1069547265
-  pub gain : q ≤ 524288
+  pub gain : q ≤ maxGain * scale
   pub fits : natAbs (stepFrom q b m y) < 2147483648
 
 -- what the step of a line asks
 pub record StepAsked (n q : ℕ) (scratch : List ℤ) : Type 0 where
-  pub short : n ≤ 1024
+  pub short : n ≤ maxSide
   pub room : 3 * n ≤ length scratch
   pub each : (i : ℕ) → i < n → SampleStepAsked (lineAt n scratch i) (lineAt 0 scratch i) (lineAt (n + n) scratch i) q
 

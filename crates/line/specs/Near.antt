@@ -3,6 +3,7 @@
 use Prim.Native.Nat.{ℕ, _+_, _-_, _*_, _^_, _<_, min}
 use mathlib.Core.Path.{_≡_}
 use lib.IntN.{ℤ, pos, negsuc, natAbs, _-ℤ_, _*ℤ_}
+use Rattle.floats.specs.Factor.{scale}
 use Rattle.line.specs.Exact.{Fraction}
 
 -- |y − x| < bound, both sides multiplied by the denominator of x
@@ -20,7 +21,7 @@ boundAtOne k = 2 ^ k - 1
 -- y lies that near to x
 pub record Near (q k : ℕ) (y : ℤ) (x : Fraction) : Type 0 where
   pub near : LessFrom (bound k) y x
-  pub near-at-one : q ≡ 65536 → LessFrom (boundAtOne k) y x
+  pub near-at-one : q ≡ scale → LessFrom (boundAtOne k) y x
 
 -- x cut to 0..255, the denominator kept
 abbrev pub cutNumerator : ℤ → ℕ → ℕ

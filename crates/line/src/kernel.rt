@@ -1,7 +1,7 @@
 // One line's restoration, in a scratch of three parts: the observed samples, the estimate, and the estimate's mean.
 ghost use Prim.Native.Nat.{_+_};
 ghost use lib.ListN.{length};
-ghost use Rattle.line.specs.Kernel.{LineLaid, KernelTaken, bytesOn, lineAt, LineRestored};
+ghost use Rattle.line.specs.Kernel.{LineAsked, KernelAsked, bytesOn, lineAt, LineRestored};
 ghost use Rattle.line.specs.Kernel.{Gathered, Iterated, IterationAsked};
 use crate::mean::MeanSettings;
 use crate::mean::line_mean;
@@ -12,17 +12,22 @@ use raster::border::LineBorderMode;
 
 // What a line filter does to each line.
 pub struct LineKernel {
-    // Up to 2049.
+    // Up to twice the longest side and 1.
     pub blur_length: usize,
-    // The factor times 65536.
+    // The factor times Quantized::SCALE.
     pub q: u32,
+    // Up to MAX_ITERATIONS.
     pub iterations: usize,
     pub border: LineBorderMode,
 }
 
+impl LineKernel {
+    pub const MAX_ITERATIONS: usize = 22;
+}
+
 // The bytes of a line into the first and the second part of the scratch: the observed samples, and the first estimate.
 pub fn gather(data: &[u8], start: usize, step: usize, n: usize, scratch: &mut [i32])
-    requires { ⌜ LineLaid (length (now «data»)) start step n (length (now scratch)) ⌝ }
+    requires { ⌜ LineAsked (length (now «data»)) start step n (length (now scratch)) ⌝ }
     ensures { λ r. ⌜ Gathered (bytesOn (now («data» .entry)) start step) n (now (scratch .exit)) ⌝ }
 {
     let mut i = 0;
@@ -62,7 +67,7 @@ pub fn restore_line(
     kernel: LineKernel,
     scratch: &mut [i32],
 )
-    requires { ⌜ LineLaid (length (now «data»)) start step n (length (now scratch)) × KernelTaken kernel ⌝ }
+    requires { ⌜ LineAsked (length (now «data»)) start step n (length (now scratch)) × KernelAsked kernel ⌝ }
     ensures { λ r. ⌜ LineRestored (now («data» .entry)) start step n kernel (now (scratch .exit)) ⌝ }
 {
     gather(data, start, step, n, scratch);

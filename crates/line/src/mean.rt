@@ -3,7 +3,7 @@ ghost use mathlib.Core.Path.{_≡_};
 ghost use Prim.Native.Nat.{_*_, _-_, _+_, _/_, _≤_, _<_};
 ghost use lib.IntN.{natAbs};
 ghost use lib.Signed.{shrZ};
-ghost use Rattle.line.specs.Kernel.{largest, Reciprocal, MeanAsked, windowAt, MeansWritten};
+ghost use Rattle.line.specs.Kernel.{longestBlur, largest, Reciprocal, MeanAsked, windowAt, MeansWritten};
 use crate::window::first_window;
 use crate::window::sample_at;
 use crate::window::slide;
@@ -22,7 +22,7 @@ pub struct MeanSettings {
 
 // The reciprocal of the length, which divides the sums of the first 10 iterations; 0 for the larger ones of the others.
 pub(crate) fn reciprocal_of(blur_length: usize, iteration: usize) -> u64
-    requires { ⌜ (1 ≤ «blur_length») × («blur_length» ≤ 2049) ⌝ }
+    requires { ⌜ (1 ≤ «blur_length») × («blur_length» ≤ longestBlur) ⌝ }
     ensures { λ r. ⌜ Reciprocal «blur_length» r × (0 < r → iteration < 10) ⌝ }
 {
     if iteration < 10 {

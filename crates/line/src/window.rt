@@ -4,9 +4,11 @@ ghost use Prim.Native.Nat.{_*_, _-_, _^_, _≤_, _<_, max};
 ghost use lib.IntN.{pos, natAbs, subℕ, _+ℤ_, _-ℤ_, _*ℤ_};
 ghost use lib.ListN.{length};
 ghost use Rattle.numbers.specs.Sum.{total};
+ghost use Rattle.image.specs.Refusal.{maxSide};
 ghost use Rattle.raster.specs.Border.{borderMap};
 ghost use Rattle.line.specs.Line.{sample};
-ghost use Rattle.line.specs.Kernel.{lineAt, MeanAsked, mapOf, windowAt, opening, FlatBorder, PeriodicBorder};
+ghost use Rattle.line.specs.Kernel.{longestBlur, lineAt, MeanAsked, mapOf, windowAt};
+ghost use Rattle.line.specs.Kernel.{opening, FlatBorder, PeriodicBorder};
 use crate::mean::MeanSettings;
 use numbers::min_usize;
 use numbers::signed;
@@ -24,7 +26,7 @@ pub(crate) fn sample_at(
     half: usize,
     border: LineBorderMode,
 ) -> i32
-    requires { ⌜ (1 ≤ n) × (n ≤ 1024) × (3 * n ≤ length (now scratch)) ⌝ }
+    requires { ⌜ (1 ≤ n) × (n ≤ maxSide) × (3 * n ≤ length (now scratch)) ⌝ }
     ensures { λ r. ⌜ r ≡ sample (borderMap border n) (lineAt n (now (scratch .entry))) (subℕ u half) ⌝ }
 {
     let source = border_index(u, half, n, border);
@@ -75,7 +77,7 @@ fn line_sum(scratch: &[i32], settings: MeanSettings, count: usize) -> i64
 }
 
 fn times(count: usize, v: i64) -> i64
-    requires { ⌜ (count ≤ 2049) × (natAbs v < 2 ^ 51) ⌝ }
+    requires { ⌜ (count ≤ longestBlur) × (natAbs v < 2 ^ 51) ⌝ }
     ensures { λ r. ⌜ r ≡ pos count *ℤ v ⌝ }
 {
     signed(count) * v
@@ -101,7 +103,7 @@ fn flat_window(scratch: &[i32], settings: MeanSettings) -> i64
 
 // After how many places a reflected line comes again.
 fn reflected_period(n: usize) -> usize
-    requires { ⌜ (1 ≤ n) × (n ≤ 1024) ⌝ }
+    requires { ⌜ (1 ≤ n) × (n ≤ maxSide) ⌝ }
     ensures { λ r. ⌜ r ≡ max 1 (2 * n - 2) ⌝ }
 {
     if n == 1 {

@@ -4,7 +4,7 @@
 -- Not here: `List·getD-eq-default`, a load past the end (`lib.ListN`); `same-len-mid`, `put-same`, `set-mid-at`,
 -- `take-put`, `drop-put`, of a list whose part has come back (`borrow.Rule.Slice.PartMut`).
 use mathlib.Core.Path.{_≡_, ap, _∙_}
-use mathlib.Core.List.{List, [], _++_}
+use mathlib.Core.List.{List, _++_}
 use Prim.Native.Nat.{ℕ, _+_, _-_, _≤_, _<_}
 use native.Mathlib.Omega.{arith}
 use lib.ListN.{length, getD, take, drop, length-drop, List·getD-append}

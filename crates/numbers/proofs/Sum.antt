@@ -1,9 +1,9 @@
 -- Laws of the sums of specs/Sum: `total` (of integers, from a start) and `count` (of naturals, from 0). Ends, parts,
--- terms changed or bounded, sums of sums, multiples, constants, shifts. A pointwise premise asks only for the places
--- that are summed.
-use mathlib.Core.Path.{_≡_, refl, sym, _∙_, ap, ap₂}
+-- terms changed or bounded, sums of sums, multiples, constants, shifts, periods. A pointwise premise asks only for the
+-- places that are summed.
+use mathlib.Core.Path.{_≡_, refl, sym, _∙_, ap, ap₂, subst}
 use Prim.Native.Nat.{ℕ, zero, suc, _+_, _-_, _*_, _≤_, _<_, zero-le}
-use native.Mathlib.Nat.{add-zero, add-suc, add-le-add, le-refl, suc-sub-suc, sub-zero}
+use native.Mathlib.Nat.{add-zero, add-suc, add-le-add, le-refl, suc-sub-suc, sub-zero, suc-mul, zero-mul, zero-add}
 use native.Mathlib.Omega.{arith}
 use lib.IntN.{ℤ, pos, natAbs, negℤ, _+ℤ_, _-ℤ_, _*ℤ_, +ℤ-idl, +ℤ-idr, +ℤ-assoc, +ℤ-comm, negℤ-+ℤ, zero-*ℤ, *ℤ-zero}
 use lib.Signed.{_≤ℤ_, ≤ℤ-refl}
@@ -101,6 +101,32 @@ pub total-shift : (g : ℕ → ℤ) (a m k : ℕ) → total (λ i. g (i + m)) a 
 unfolding total
 total-shift g a m zero = refl
 total-shift g a m (suc k) = ap₂ _+ℤ_ (total-shift g a m k) (ap g {x = a + k + m} {y = a + m + k} (omega arith))
+
+-- s times a sum beside another, where s times each term lies within c of the other's
+pub total-near : (f g : ℕ → ℤ) (s c k : ℕ) → ((u : ℕ) → natAbs (pos s *ℤ f u -ℤ g u) ≤ c)
+    → natAbs (pos s *ℤ total f 0 k -ℤ total g 0 k) ≤ k * c
+total-near f g s c k h =
+    subst (λ (z : ℤ). natAbs z ≤ k * c)
+    (total-sub (λ u. pos s *ℤ f u) g 0 k ∙ ap (_-ℤ total g 0 k) (total-scale (pos s) f 0 k))
+    (total-within (λ u. pos s *ℤ f u -ℤ g u) 0 k c (λ u _ _. h u))
+
+-- terms that come again after m: k times the sum of m, and a rest of r
+pub total-periods : (g : ℕ → ℤ) (m : ℕ) → ((u : ℕ) → g (u + m) ≡ g u) → (k r : ℕ)
+    → total g 0 (k * m + r) ≡ pos k *ℤ total g 0 m +ℤ total g 0 r
+total-periods g m again zero r =
+    ap (total g 0) (rw (zero-mul m) (zero-add r))
+    ∙ sym (ap (_+ℤ total g 0 r) (zero-*ℤ (total g 0 m)) ∙ +ℤ-idl (total g 0 r))
+total-periods g m again (suc k) r =
+    let e : suc k * m + r ≡ m + (k * m + r) = omega (arith, suc-mul k m) in
+    let t = total g 0 m in
+    ap (total g 0) e
+    ∙ total-split g 0 m (k * m + r)
+    ∙ ap (t +ℤ_)
+    (sym (total-shift g 0 m (k * m + r))
+    ∙ total-same (λ i. g (i + m)) g 0 (k * m + r) (λ i _ _. again i)
+    ∙ total-periods g m again k r)
+    ∙ sym (+ℤ-assoc t (pos k *ℤ t) (total g 0 r))
+    ∙ ap (_+ℤ total g 0 r) (+ℤ-comm t (pos k *ℤ t) ∙ sym (suc-*ℤ k t))
 
 -- ---- count
 

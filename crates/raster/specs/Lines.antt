@@ -7,6 +7,7 @@ use mathlib.Core.List.{[], _∷_, map}
 use Prim.Native.Nat.{ℕ, _+_, _-_, _*_, _≤_, _<_, min}
 use lib.Dec.{leb, ltb}
 use lib.IntN.{ℤ, pos, negsuc, _+ℤ_, _*ℤ_}
+use Rattle.image.specs.Refusal.{maxSide}
 use Rattle.raster.specs.declared.direction.RasterDirection4.{RasterDirection4}
 use Rattle.raster.specs.declared.direction.RasterDirection4.the-variants.{Horizontal, DownRight}
 use Rattle.raster.specs.declared.direction.RasterDirection4.the-variants.{Vertical, DownLeft}
@@ -17,8 +18,8 @@ use Rattle.raster.specs.Direction.{stepOf}
 pub record Sides (w h : ℕ) : Type 0 where
   pub some-columns : 1 ≤ w
   pub some-rows : 1 ≤ h
-  pub few-columns : w ≤ 1024
-  pub few-rows : h ≤ 1024
+  pub few-columns : w ≤ maxSide
+  pub few-rows : h ≤ maxSide
 
 -- ---- "Starts: left column; top row, then left column from row 1; top row; top row, then right column from row 1."
 

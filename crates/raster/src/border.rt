@@ -2,6 +2,7 @@
 ghost use mathlib.Core.Path.{_≡_};
 ghost use Prim.Native.Nat.{_%_, _≤_, _<_};
 ghost use lib.IntN.{subℕ};
+ghost use Rattle.image.specs.Refusal.{maxSide};
 ghost use Rattle.raster.specs.Border.{borderCode, borderValue, borderFrom, isBorder};
 ghost use Rattle.raster.specs.Border.{borderMap, constant, modℤ, nearer, reflected};
 
@@ -102,7 +103,7 @@ fn rem_euclid(u: usize, half: usize, modulus: usize) -> usize
 
 // The place u - half of the line reflected at its ends.
 fn reflected_place(u: usize, half: usize, length: usize) -> usize
-    requires { ⌜ (0 < length) × (length ≤ 1024) ⌝ }
+    requires { ⌜ (0 < length) × (length ≤ maxSide) ⌝ }
     ensures { λ r. ⌜ r ≡ reflected length (subℕ u half) ⌝ }
 {
     if length == 1 {
@@ -131,7 +132,7 @@ fn constant_sample(u: usize, half: usize, length: usize, value: u8) -> BorderSam
 
 // Where the sample at the place u - half of a line comes from.
 pub fn border_index(u: usize, half: usize, length: usize, border: LineBorderMode) -> BorderSample
-    requires { ⌜ (0 < length) × (length ≤ 1024) ⌝ }
+    requires { ⌜ (0 < length) × (length ≤ maxSide) ⌝ }
     ensures { λ r. ⌜ r ≡ borderMap border length (subℕ u half) ⌝ }
 {
     match border {

@@ -10,7 +10,7 @@ use lib.Ieee.Bits.{ofBits-toBits, toBits-ofBits, nanBits-is, nanBits-above}
 use lib.Ieee.Exact.{HasValue}
 use lib.Ieee.Fits.{div-fits}
 use lib.Ieee.Scale.{finite}
-use Rattle.floats.specs.Factor.{factorOf}
+use Rattle.floats.specs.Factor.{scale, factorOf}
 use Rattle.record.specs.Record.{isFactor}
 use Rattle.floats.proofs.Factor.{factor-value}
 
@@ -75,7 +75,7 @@ value-finite (inf t) s a c h = absurd h
 value-finite (fin t m e) s a c h = refl
 
 pub factor-finite : (q : ℕ) → q < 2 ^ 53 → finite (factorOf q) ≡ true
-factor-finite q h = value-finite (factorOf q) false q 65536 (factor-value q h)
+factor-finite q h = value-finite (factorOf q) false q scale (factor-value q h)
 
 -- a factor that passes the test is q / 65,536
 pub factor-same : (q : ℕ) (x : Float) → T (fits binary64 x) → isFactor q x ≡ true → factorOf q ≡ x

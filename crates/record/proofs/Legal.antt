@@ -9,7 +9,7 @@ use lib.Dec.{leb, eqb}
 use lib.Ieee.{binary64, ofBits}
 use lib.Ieee.Scale.{finite}
 use Rattle.numbers.proofs.Test.{by-test, or-cases, false-of-not}
-use Rattle.floats.specs.Factor.{factorOf}
+use Rattle.floats.specs.Factor.{scale, maxRelaxation, maxGain, factorOf}
 use Rattle.raster.specs.Border.{isBorder}
 use Rattle.raster.specs.declared.border.LineBorderMode.the-variants.{Replicate}
 use Rattle.raster.proofs.Codes.{is-border}
@@ -40,9 +40,9 @@ estimate-refused b h = false-of-not (estimateLegal b) (λ e. false≢true (sym h
 
 -- what each filter's limits say of length and q, and the binomial's of the doubles
 abbrev pub FilterSound : RecordFilter → Fields → Type 0
-FilterSound (WholeJob x) f = (f .«blur_length» ≡ 0) × (f .q ≤ 65536)
-FilterSound (Restoration x) f = (3 ≤ f .«blur_length») × (f .q ≤ 65536)
-FilterSound (Unsharp x) f = f .q ≤ 524288
+FilterSound (WholeJob x) f = (f .«blur_length» ≡ 0) × (f .q ≤ maxRelaxation * scale)
+FilterSound (Restoration x) f = (3 ≤ f .«blur_length») × (f .q ≤ maxRelaxation * scale)
+FilterSound (Unsharp x) f = f .q ≤ maxGain * scale
 FilterSound Binomial f = (f .q ≡ 0) × (f .angle ≡ 0) × (f .estimate ≡ 0)
 
 pub record Sound (k : RecordFilter) (f : Fields) : Type 0 where
@@ -81,7 +81,7 @@ module _ (f : Fields) where
         estimate = estimate-finite (f .estimate) (e .1);
       }
 
-  iterated : iteratedLegal f ≡ true → (lineLegal f ≡ true) × (f .q ≤ 65536)
+  iterated : iteratedLegal f ≡ true → (lineLegal f ≡ true) × (f .q ≤ maxRelaxation * scale)
   unfolding iteratedLegal
   iterated h = let q = both _ _ h in (both _ _ (both _ _ (q .0) .0) .0, leb-true _ _ (q .1))
 

@@ -12,7 +12,7 @@ use lib.ListN.{length}
 use lib.Ieee.{Float, binary64, toBits, fits}
 use lib.Ieee.Bits.{ofBits-toBits, toBits-lt}
 use Rattle.numbers.proofs.Test.{by-test}
-use Rattle.floats.specs.Factor.{quantized, factorOf}
+use Rattle.floats.specs.Factor.{scale, quantized, factorOf}
 use Rattle.floats.specs.declared.Quantized.{Quantized}
 use Rattle.floats.specs.declared.Quantized.the-variants.{Q16, Refused}
 use Rattle.floats.proofs.Factor.{quantized-factor}
@@ -41,7 +41,7 @@ use Rattle.record.proofs.Coding.{InBytes, decoded-encoded, decoded-in-b
 -- ---- fields and record
 
 -- q and the factor q / 65,536 determine each other
-pub factor-exact : (limit q : ℕ) → limit ≤ 255 → q ≤ limit * 65536
+pub factor-exact : (limit q : ℕ) → limit ≤ 255 → q ≤ limit * scale
     → exactQ (quantized limit (factorOf q)) (factorOf q) ≡ Q16 q
 unfolding isFactor
 factor-exact limit q l h =

@@ -1,12 +1,15 @@
 -- Document 01, "The 32-byte record": where each field stands, and its filter's limits.
 use mathlib.Core.Bool.{Bool, _&&_, _||_}
 use mathlib.Core.List.{List, [], _∷_, _++_}
-use Prim.Native.Nat.{ℕ, _+_, _*_, _%_, max}
+use Prim.Native.Nat.{ℕ, _*_, _%_}
 use lib.Dec.{leb, eqb}
 use lib.ListN.{getD}
 use lib.Ieee.{binary64, ofBits, lt}
 use lib.Ieee.Scale.{finite}
+use Rattle.floats.specs.Factor.{scale, maxRelaxation, maxGain}
+use Rattle.image.specs.Refusal.{maxSide}
 use Rattle.raster.specs.Border.{isBorder}
+use Rattle.line.specs.Kernel.{maxIterations, maxBlurLength}
 use Rattle.record.specs.Bytes.{numberAt, bytesOf}
 use Rattle.record.specs.declared.RecordFilter.{RecordFilter}
 use Rattle.record.specs.declared.RecordFilter.the-variants.{WholeJob, Restoration, Unsharp, Binomial}
@@ -35,34 +38,35 @@ decoded xs = record {
 }
 
 -- the bytes of the fields, in the same order; four fields are single bytes
-unfoldable pub headBytes : Fields → List ℕ
-headBytes f =
-    bytesOf 2 (f .head .width)
-    ++ bytesOf 2 (f .head .height)
-    ++ (f .direction ∷ f .border ∷ f .value ∷ f .head .filter ∷ [])
+unfoldable pub headBytes : ℕ → ℕ → ℕ → ℕ → ℕ → ℕ → List ℕ
+headBytes width height direction border value filter =
+    bytesOf 2 width ++ bytesOf 2 height ++ (direction ∷ border ∷ value ∷ filter ∷ [])
 
-unfoldable pub countBytes : Fields → List ℕ
-countBytes f = bytesOf 2 (f .«blur_length») ++ bytesOf 2 (f .iterations) ++ bytesOf 4 (f .q)
+unfoldable pub countBytes : ℕ → ℕ → ℕ → List ℕ
+countBytes L iterations q = bytesOf 2 L ++ bytesOf 2 iterations ++ bytesOf 4 q
 
-unfoldable pub doubleBytes : Fields → List ℕ
-doubleBytes f = bytesOf 8 (f .angle) ++ bytesOf 8 (f .estimate)
+unfoldable pub doubleBytes : ℕ → ℕ → List ℕ
+doubleBytes angle estimate = bytesOf 8 angle ++ bytesOf 8 estimate
 
 unfoldable pub encoded : Fields → List ℕ
 unfolding headBytes countBytes doubleBytes
-encoded f = headBytes f ++ countBytes f ++ doubleBytes f
+encoded f =
+    headBytes (f .head .width) (f .head .height) (f .direction) (f .border) (f .value) (f .head .filter)
+    ++ countBytes (f .«blur_length») (f .iterations) (f .q)
+    ++ doubleBytes (f .angle) (f .estimate)
 
 -- ---- the limits
 
 -- "Refusals", 1 and 2: 1 to 1,024
 abbrev pub sideLegal : ℕ → Bool
-sideLegal n = leb 1 n && leb n 1024
+sideLegal n = leb 1 n && leb n maxSide
 
 abbrev pub headLegal : Head → Bool
 headLegal h = sideLegal (h .width) && sideLegal (h .height)
 
 -- "Refusals", 7: a blur length is odd, at least 3 and at most 2 × max(width, height) + 1
 abbrev pub lengthLegal : ℕ → ℕ → ℕ → Bool
-lengthLegal width height n = eqb (n % 2) 1 && leb 3 n && leb n (2 * max width height + 1)
+lengthLegal width height n = eqb (n % 2) 1 && leb 3 n && leb n (maxBlurLength width height)
 
 -- bits of a finite double
 abbrev pub finiteBits : ℕ → Bool
@@ -78,17 +82,18 @@ unfolding isBorder
 lineLegal f =
     leb (f .direction) 3 && isBorder (f .border) (f .value) && finiteBits (f .angle) && estimateLegal (f .estimate)
 
--- what both restorations ask ("Refusals", 8 and 9): 1 to 22 iterations; q is at most 65,536
+-- what both restorations ask ("Refusals", 8 and 9): iterations, and the q of a relaxation
 unfoldable pub iteratedLegal : Fields → Bool
 unfolding lineLegal
-iteratedLegal f = lineLegal f && leb 1 (f .iterations) && leb (f .iterations) 22 && leb (f .q) 65536
+iteratedLegal f =
+    lineLegal f && leb 1 (f .iterations) && leb (f .iterations) maxIterations && leb (f .q) (maxRelaxation * scale)
 
 -- direction, length, angle and estimate are 0
 abbrev pub unmeasured : Fields → Bool
 unmeasured f = eqb (f .direction) 0 && eqb (f .«blur_length») 0 && eqb (f .angle) 0 && eqb (f .estimate) 0
 
 -- "Each field obeys its filter's limits": the whole job has length 0, which stands with direction 0, angle bits 0 and
--- estimate 0; line unsharp has 0 iterations and a q of at most 524,288; the binomial has 0 in all behind height but
+-- estimate 0; line unsharp has 0 iterations and the q of a gain; the binomial has 0 in all behind height but
 -- filter
 unfoldable pub filterLegal : RecordFilter → Fields → Bool
 unfolding iteratedLegal lineLegal
@@ -98,7 +103,7 @@ filterLegal (Unsharp x) f =
     lineLegal f
     && lengthLegal (f .head .width) (f .head .height) (f .«blur_length»)
     && eqb (f .iterations) 0
-    && leb (f .q) 524288
+    && leb (f .q) (maxGain * scale)
 filterLegal Binomial f =
     unmeasured f && eqb (f .border) 0 && eqb (f .value) 0 && eqb (f .iterations) 0 && eqb (f .q) 0
 

@@ -8,7 +8,7 @@ use lib.Dec.{eqb}
 use lib.ListN.{length}
 use lib.Ieee.{Float, binary64, ofBits, toBits}
 use lib.Ieee.Scale.{finite}
-use Rattle.floats.specs.Factor.{quantized, factorOf}
+use Rattle.floats.specs.Factor.{maxRelaxation, maxGain, quantized, factorOf}
 use Rattle.floats.specs.declared.Quantized.{Quantized}
 use Rattle.floats.specs.declared.Quantized.the-variants.{Q16, Refused}
 use Rattle.raster.specs.Direction.{directionIndex, directionFrom}
@@ -68,11 +68,11 @@ abbrev pub exactQ : Quantized → Float → Quantized
 exactQ (Q16 q) x = cond (isFactor q x) (Q16 q) Refused
 exactQ Refused x = Refused
 
--- a relaxation lies in 0..1, a gain in 0..8; the binomial has q 0
+-- q of a relaxation, or of a gain; the binomial has q 0
 unfoldable pub filterQ : RecordFilter → Quantized
-filterQ (WholeJob x) = exactQ (quantized 1 x) x
-filterQ (Restoration x) = exactQ (quantized 1 x) x
-filterQ (Unsharp x) = exactQ (quantized 8 x) x
+filterQ (WholeJob x) = exactQ (quantized maxRelaxation x) x
+filterQ (Restoration x) = exactQ (quantized maxRelaxation x) x
+filterQ (Unsharp x) = exactQ (quantized maxGain x) x
 filterQ Binomial = Q16 0
 
 -- the fields as numbers, with the filter's q; angle and estimate as double bits

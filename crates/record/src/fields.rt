@@ -56,35 +56,44 @@ pub(crate) fn fields_in(bytes: &[u8]) -> Fields
 }
 
 // Width, height and the four single bytes.
-fn put_head(fields: Fields, bytes: &mut [u8])
+fn put_head(
+    width: u16,
+    height: u16,
+    direction: u8,
+    border: u8,
+    value: u8,
+    filter: u8,
+    bytes: &mut [u8],
+)
     requires { ⌜ length (now bytes) ≡ 32 ⌝ }
-    ensures { λ _. ⌜ now (bytes .exit) ≡ sets (now (bytes .entry)) 0 (headBytes fields) ⌝ }
+    ensures { λ _. ⌜ now (bytes .exit)
+        ≡ sets (now (bytes .entry)) 0 (headBytes width height direction border value filter) ⌝ }
 {
-    put_number(bytes, 0, 2, fields.head.width as u64);
-    put_number(bytes, 2, 2, fields.head.height as u64);
-    bytes[4] = fields.direction;
-    bytes[5] = fields.border;
-    bytes[6] = fields.value;
-    bytes[7] = fields.head.filter;
+    put_number(bytes, 0, 2, width as u64);
+    put_number(bytes, 2, 2, height as u64);
+    bytes[4] = direction;
+    bytes[5] = border;
+    bytes[6] = value;
+    bytes[7] = filter;
 }
 
 // Blur length, iterations and q.
-fn put_counts(fields: Fields, bytes: &mut [u8])
+fn put_counts(blur_length: u16, iterations: u16, q: u32, bytes: &mut [u8])
     requires { ⌜ length (now bytes) ≡ 32 ⌝ }
-    ensures { λ _. ⌜ now (bytes .exit) ≡ sets (now (bytes .entry)) 8 (countBytes fields) ⌝ }
+    ensures { λ _. ⌜ now (bytes .exit) ≡ sets (now (bytes .entry)) 8 (countBytes «blur_length» iterations q) ⌝ }
 {
-    put_number(bytes, 8, 2, fields.blur_length as u64);
-    put_number(bytes, 10, 2, fields.iterations as u64);
-    put_number(bytes, 12, 4, fields.q as u64);
+    put_number(bytes, 8, 2, blur_length as u64);
+    put_number(bytes, 10, 2, iterations as u64);
+    put_number(bytes, 12, 4, q as u64);
 }
 
 // Angle and estimate.
-fn put_doubles(fields: Fields, bytes: &mut [u8])
+fn put_doubles(angle: u64, estimate: u64, bytes: &mut [u8])
     requires { ⌜ length (now bytes) ≡ 32 ⌝ }
-    ensures { λ _. ⌜ now (bytes .exit) ≡ sets (now (bytes .entry)) 16 (doubleBytes fields) ⌝ }
+    ensures { λ _. ⌜ now (bytes .exit) ≡ sets (now (bytes .entry)) 16 (doubleBytes angle estimate) ⌝ }
 {
-    put_number(bytes, 16, 8, fields.angle);
-    put_number(bytes, 24, 8, fields.estimate);
+    put_number(bytes, 16, 8, angle);
+    put_number(bytes, 24, 8, estimate);
 }
 
 // Each field where it belongs.
@@ -92,7 +101,15 @@ pub(crate) fn put_fields(fields: Fields, bytes: &mut [u8])
     requires { ⌜ length (now bytes) ≡ 32 ⌝ }
     ensures { λ _. ⌜ now (bytes .exit) ≡ encoded fields ⌝ }
 {
-    put_head(fields, bytes);
-    put_counts(fields, bytes);
-    put_doubles(fields, bytes);
+    put_head(
+        fields.head.width,
+        fields.head.height,
+        fields.direction,
+        fields.border,
+        fields.value,
+        fields.head.filter,
+        bytes,
+    );
+    put_counts(fields.blur_length, fields.iterations, fields.q, bytes);
+    put_doubles(fields.angle, fields.estimate, bytes);
 }

@@ -1,33 +1,35 @@
 // The limits of a record's fields. Tests are joined by `&` and `|`: each ends, and none needs another's answer.
 use crate::RecordFilter;
 use crate::fields::Fields;
-use crate::fields::Head;
+use floats::Quantized;
+use image::Gray8View;
+use line::kernel::LineKernel;
+use numbers::max_usize;
 use raster::border::LineBorderMode;
 ghost use mathlib.Core.Path.{_≡_};
-ghost use Prim.Native.Nat.{_+_, _*_, max};
-ghost use Rattle.record.specs.Fields.{headLegal, lengthLegal, finiteBits, estimateLegal, lineLegal};
+ghost use Rattle.record.specs.Fields.{sideLegal, lengthLegal, finiteBits, estimateLegal, lineLegal};
 ghost use Rattle.record.specs.Fields.{iteratedLegal, unmeasured, filterLegal, legal};
 
-// Sides of 1 to 1,024.
-fn is_head(head: Head) -> bool
-    ensures { λ r. ⌜ r ≡ headLegal head ⌝ }
+// The limits as the fields' types.
+const MAX_SIDE: u16 = Gray8View::MAX_SIDE as u16;
+
+const MAX_ITERATIONS: u16 = LineKernel::MAX_ITERATIONS as u16;
+
+const MAX_RELAXATION_Q: u32 = Quantized::MAX_RELAXATION as u32 * Quantized::SCALE;
+
+const MAX_GAIN_Q: u32 = Quantized::MAX_GAIN as u32 * Quantized::SCALE;
+
+fn is_side(n: u16) -> bool
+    ensures { λ r. ⌜ r ≡ sideLegal n ⌝ }
 {
-    (1 <= head.width) & (head.width <= 1024) & ((1 <= head.height) & (head.height <= 1024))
+    (1 <= n) & (n <= MAX_SIDE)
 }
 
-fn longest(width: u16, height: u16) -> u32
-    ensures { λ r. ⌜ r ≡ 2 * max width height + 1 ⌝ }
+fn is_length(width: u16, height: u16, n: u16) -> bool
+    ensures { λ r. ⌜ r ≡ lengthLegal width height n ⌝ }
 {
-    if width < height {
-        return 2 * height as u32 + 1;
-    }
-    2 * width as u32 + 1
-}
-
-fn is_length(head: Head, n: u16) -> bool
-    ensures { λ r. ⌜ r ≡ lengthLegal (head .width) (head .height) n ⌝ }
-{
-    (n % 2 == 1) & (3 <= n) & (n as u32 <= longest(head.width, head.height))
+    let longest = 2 * max_usize(width as usize, height as usize) + 1;
+    (n % 2 == 1) & (3 <= n) & (n as usize <= longest)
 }
 
 // Bits above infinity's are a NaN's, and no double is made of those.
@@ -62,7 +64,10 @@ fn is_line(fields: Fields) -> bool
 fn is_iterated(fields: Fields) -> bool
     ensures { λ r. ⌜ r ≡ iteratedLegal fields ⌝ }
 {
-    is_line(fields) & (1 <= fields.iterations) & (fields.iterations <= 22) & (fields.q <= 65536)
+    is_line(fields)
+        & (1 <= fields.iterations)
+        & (fields.iterations <= MAX_ITERATIONS)
+        & (fields.q <= MAX_RELAXATION_Q)
 }
 
 fn is_unmeasured(fields: Fields) -> bool
@@ -77,17 +82,17 @@ fn is_unmeasured(fields: Fields) -> bool
 fn is_filter(filter: RecordFilter, fields: Fields) -> bool
     ensures { λ r. ⌜ r ≡ filterLegal filter fields ⌝ }
 {
-    let head = fields.head;
     match filter {
         RecordFilter::WholeJob(_) => is_iterated(fields) & is_unmeasured(fields),
         RecordFilter::Restoration(_) => {
-            is_iterated(fields) & is_length(head, fields.blur_length)
+            is_iterated(fields)
+                & is_length(fields.head.width, fields.head.height, fields.blur_length)
         }
         RecordFilter::Unsharp(_) => {
             is_line(fields)
-                & is_length(head, fields.blur_length)
+                & is_length(fields.head.width, fields.head.height, fields.blur_length)
                 & (fields.iterations == 0)
-                & (fields.q <= 524288)
+                & (fields.q <= MAX_GAIN_Q)
         }
         RecordFilter::Binomial => {
             is_unmeasured(fields)
@@ -103,6 +108,5 @@ fn is_filter(filter: RecordFilter, fields: Fields) -> bool
 pub(crate) fn is_legal(filter: RecordFilter, fields: Fields) -> bool
     ensures { λ r. ⌜ r ≡ legal filter fields ⌝ }
 {
-    let head = fields.head;
-    is_head(head) & is_filter(filter, fields)
+    is_side(fields.head.width) & is_side(fields.head.height) & is_filter(filter, fields)
 }

@@ -13,14 +13,14 @@ use Rattle.sharpen.specs.declared.SharpenAnswer.{SharpenAnswer}
 use Rattle.sharpen.specs.declared.SharpenAnswer.the-variants.{Done, Refused}
 
 -- how many u16 the call asks as scratch
-abbrev pub scratchNeeded : ℕ → ℕ → ℕ
-scratchNeeded width height = width * height
+abbrev pub binomialScratch : ℕ → ℕ → ℕ
+binomialScratch width height = width * height
 
 -- Document 01, "Refusals, first match wins": 1 to 6, then 10 where scratch is too short. 0 is no refusal.
 unfoldable pub binomialRefusal : ℕ → ℕ → ℕ → ℕ → ℕ → ℕ → ℕ → ℕ → ℕ → ℕ
 binomialRefusal len width height stride dstLen dstWidth dstHeight dstStride scratchLen =
     firstRefusal (pairRefusal len width height stride dstLen dstWidth dstHeight dstStride)
-    (cond (ltb scratchLen (scratchNeeded width height)) 10 0)
+    (cond (ltb scratchLen (binomialScratch width height)) 10 0)
 
 -- the call finds nothing
 abbrev pub sharpenAnswer : Decision (Unit {0}) → SharpenAnswer

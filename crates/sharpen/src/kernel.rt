@@ -4,14 +4,14 @@ ghost use mathlib.Core.Path.{_≡_};
 ghost use Prim.Native.Nat.{_+_, _-_, _*_, _≤_, _<_};
 ghost use lib.ListN.{length, take, drop};
 ghost use Rattle.numbers.specs.Written.{Written, Painted, front, part};
-ghost use Rattle.image.specs.Refusal.{Laid};
+ghost use Rattle.image.specs.Refusal.{maxSide, Laid};
 ghost use Rattle.image.specs.Picture.{pixel};
 ghost use Rattle.sharpen.specs.Binomial.{tapPlace, sharper, unsharp};
 ghost use Rattle.sharpen.specs.Passes.{weighed, sumAt, insideAt, sharperAt, FiveSums, RowSums};
 
 // Where tap i of place p lies, in a line of n.
 pub fn tap_place(n: usize, p: usize, i: usize) -> usize
-    requires { ⌜ (p < n) × (i ≤ 4) × (n ≤ 1024) ⌝ }
+    requires { ⌜ (p < n) × (i ≤ 4) × (n ≤ maxSide) ⌝ }
     ensures { λ r. ⌜ r ≡ tapPlace n p i ⌝ }
 {
     let at = p + i;
@@ -40,7 +40,7 @@ pub fn weigh_bytes(a: u8, b: u8, c: u8, d: u8, e: u8) -> u16
 
 // The sum at a column, borders and all.
 pub fn column_sum(row: &[u8], x: usize) -> u16
-    requires { ⌜ (x < length (now row)) × (length (now row) ≤ 1024) ⌝ }
+    requires { ⌜ (x < length (now row)) × (length (now row) ≤ maxSide) ⌝ }
     ensures { λ r. ⌜ r ≡ sumAt (now (row .entry)) x ⌝ }
 {
     let n = row.len();
@@ -53,7 +53,7 @@ pub fn column_sum(row: &[u8], x: usize) -> u16
 
 // The sums at the columns from a start to an end.
 pub fn blur_ends(row: &[u8], out: &mut [u16], start: usize, end: usize)
-    requires { ⌜ (length (now out) ≡ length (now row)) × (length (now row) ≤ 1024) × (start ≤ end)
+    requires { ⌜ (length (now out) ≡ length (now row)) × (length (now row) ≤ maxSide) × (start ≤ end)
         × (end ≤ length (now row)) ⌝ }
     ensures { λ r. ⌜ Written 0 (part start (end - start)) (sumAt (now (row .entry)))
         (now (out .entry)) (now (out .exit)) ⌝ }
@@ -81,7 +81,7 @@ pub fn blur_inside(row: &[u8], out: &mut [u16])
 }
 
 pub fn blur_row(row: &[u8], out: &mut [u16])
-    requires { ⌜ (length (now out) ≡ length (now row)) × (length (now row) ≤ 1024) ⌝ }
+    requires { ⌜ (length (now out) ≡ length (now row)) × (length (now row) ≤ maxSide) ⌝ }
     ensures { λ r. ⌜ Written 0 (front (length (now (row .entry)))) (sumAt (now (row .entry)))
         (now (out .entry)) (now (out .exit)) ⌝ }
 {
@@ -153,7 +153,7 @@ pub fn sharpen_row(
 
 // The row of sums at tap i of row y.
 pub fn tap_row(scratch: &[u16], width: usize, height: usize, y: usize, i: usize) -> &[u16]
-    requires { ⌜ (y < height) × (i ≤ 4) × (height ≤ 1024) × (width * height ≤ length (now scratch)) ⌝ }
+    requires { ⌜ (y < height) × (i ≤ 4) × (height ≤ maxSide) × (width * height ≤ length (now scratch)) ⌝ }
     ensures { λ r. ⌜ now r ≡ take width (drop (tapPlace height y i * width) (now (scratch .entry))) ⌝ }
 {
     let start = tap_place(height, y, i) * width;

@@ -2,6 +2,8 @@
 // but the reading and writing is `smear_run::run`.
 ghost use Rattle.io.specs.Counts.{Counts};
 use libc::STDOUT_FILENO;
+use smear_run::MOST_PIXELS;
+use smear_run::MOST_PRINTED;
 use smear_run::RunAnswer;
 
 // As much of the file as the slice holds, and how much that is. A file that is missing counts as empty.
@@ -17,12 +19,12 @@ fn read_file(path: &[u8], bytes: &mut [u8]) -> usize
     n
 }
 
-// A record has 32 bytes, so that 33 tell a longer file; a picture that is not too large has at most 4,096. On the
-// stack: 8,257 bytes here, and what `smear_run::run` owns.
+// A record has 32 bytes, so that 33 tell a longer file; a picture that is not too large has at most `MOST_PIXELS`. On
+// the stack: 8,257 bytes here, and what `smear_run::run` owns.
 fn main() {
     let mut job = [0u8; 33];
-    let mut picture = [0u8; 4096];
-    let mut out = [0u8; 4128];
+    let mut picture = [0u8; MOST_PIXELS];
+    let mut out = [0u8; MOST_PRINTED];
     let job_len = read_file(b"job.rec", &mut job);
     let picture_len = read_file(b"picture.raw", &mut picture);
     let answer = smear_run::run(&job[..job_len], &picture[..picture_len], &mut out);

@@ -10,7 +10,11 @@ use Rattle.blur.specs.declared.length.LineLength.{LineLength}
 use Rattle.blur.specs.declared.length.LineLength.the-variants.{Found, Nothing}
 use Rattle.blur.specs.declared.length.LengthAnswer.{LengthAnswer}
 use Rattle.blur.specs.declared.length.LengthAnswer.the-variants.{Length, Refused}
+use Rattle.blur.specs.declared.length.LineLengthConfig.{LineLengthConfig}
 use Rattle.blur.specs.Length.{lengthDecision}
+
+abbrev pub lengthConfig : ℕ → ℕ → LineLengthConfig
+lengthConfig transitions amplitude = record { «minimum_transitions» = transitions; «minimum_amplitude» = amplitude }
 
 -- what an answer says was decided
 abbrev pub lengthDecided : LengthAnswer → Decision LineLength

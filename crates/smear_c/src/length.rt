@@ -1,11 +1,22 @@
 // The length of the line smear.
+ghost use mathlib.Core.Path.{_≡_};
 ghost use Rattle.image.specs.Call.{gray8, Returns};
 ghost use Rattle.raster.specs.Direction.{fromAngle};
-ghost use Rattle.smear_c.specs.Length.{lengthDecided, pixelsOf, LengthMeasuredC};
+ghost use Rattle.smear_c.specs.Length.{lengthConfig, lengthDecided, pixelsOf, LengthMeasuredC};
 use blur::length::LengthAnswer;
 use blur::length::LineLength;
-use blur::length::estimate_at;
+use blur::length::LineLengthConfig;
+use blur::length::estimate_line_length_with;
 use swings::Swing;
+
+fn length_config(minimum_transitions: usize, minimum_amplitude: u8) -> LineLengthConfig
+    ensures { λ r. ⌜ r ≡ lengthConfig «minimum_transitions» «minimum_amplitude» ⌝ }
+{
+    LineLengthConfig {
+        minimum_transitions,
+        minimum_amplitude,
+    }
+}
 
 // An answer as C has it: the result, and the length, 0.0 for Nothing.
 fn return_length(answer: LengthAnswer, length: &mut f64) -> u8
@@ -43,17 +54,7 @@ pub extern "C" fn smear_estimate_line_length(
         (fromAngle angle) «minimum_transitions» «minimum_amplitude»
         (now (length .entry)) (now (length .exit)) (now (swings .entry)) (now (swings .exit)) r ⌝ }
 {
-    return_length(
-        estimate_at(
-            src,
-            width,
-            height,
-            stride,
-            angle,
-            minimum_transitions,
-            minimum_amplitude,
-            swings,
-        ),
-        length,
-    )
+    let config = length_config(minimum_transitions, minimum_amplitude);
+    let answer = estimate_line_length_with(src, width, height, stride, angle, config, swings);
+    return_length(answer, length)
 }

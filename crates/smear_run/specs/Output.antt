@@ -10,7 +10,7 @@ use Rattle.record.specs.Record.{recordFields, writeBytes, readRecord, isJob}
 use Rattle.record.specs.declared.Record.{Record}
 use Rattle.record.specs.declared.ReadAnswer.{ReadAnswer}
 use Rattle.record.specs.declared.ReadAnswer.the-variants as read
-use Rattle.smear_run.specs.Stage.{Made, stage}
+use Rattle.smear_run.specs.Stage.{mostPixels, Made, stage}
 use Rattle.smear_run.specs.declared.RunAnswer.{RunAnswer}
 use Rattle.smear_run.specs.declared.RunAnswer.the-variants.{Written, Refused}
 
@@ -50,7 +50,8 @@ printed r (refuses number) = refusedText number
 
 unfoldable pub jobOutput : Record → List ℕ → List ℕ
 jobOutput r picture =
-    cond (isJob r) (cond (ltb 4096 (r .width * r .height)) tooLarge (printed r (stage r picture))) (refusedText 13)
+    cond (isJob r) (cond (ltb mostPixels (r .width * r .height)) tooLarge (printed r (stage r picture)))
+    (refusedText 13)
 
 abbrev pub outputOf : ReadAnswer → List ℕ → List ℕ
 outputOf (read.Record r) picture = jobOutput r picture

@@ -52,7 +52,7 @@ filterWrites r m old new = Painted 0 (m .pixels) (r .width) (r .height) (r .widt
 abbrev pub Filtered : Decision Made → Record → List ℕ → List ℕ → FilterAnswer → Type 0
 Filtered decision r old new answer = Outcome decision filterAnswer (filterWrites r) old new (tt {0}) (tt {0}) answer
 
--- the whole job with 4,096 records and scratch of so many i32, neither of which is spoken of after
+-- the whole job with records of its own and scratch of so many i32, neither of which is spoken of after
 abbrev pub Measured : List ℕ → ℕ → ℕ → JobConfig → ℕ → List ℕ → List ℕ → JobAnswer → Type 0
 Measured picture width height config scratchLen old new answer =
     Outcome (planned picture width height (length old) config scratchLen) jobAnswer

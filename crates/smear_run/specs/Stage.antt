@@ -72,7 +72,15 @@ recordJob r relaxation = record {
   border = r .border;
 }
 
--- ---- each filter on the tight picture, into a tight destination, with scratch for 4,096 pixels
+-- ---- each filter on the tight picture, into a tight destination, with scratch for the largest picture
+
+-- "width × height above 4,096 prints `too large`"
+abbrev pub mostPixels : ℕ
+mostPixels = 4096
+
+-- how many i32 a line filter has
+abbrev pub lineScratch : ℕ
+lineScratch = 3 * mostPixels
 
 -- a tight picture of the record's sides
 abbrev pub tight : Record → List ℕ → Gray8
@@ -88,13 +96,13 @@ lineStage r f picture =
     (decided
     (filterRefusal (length picture) (r .width) (r .height) (r .width) (r .width * r .height)
     (r .width) (r .height) (r .width)
-    (f .refusal (r .width) (r .height)) 12288)
+    (f .refusal (r .width) (r .height)) lineScratch)
     (f .direction))
 
--- what the whole job comes to, with scratch of so many i32 and 4,096 records
+-- what the whole job comes to, with scratch of so many i32 and a record a pixel
 abbrev pub planned : List ℕ → ℕ → ℕ → ℕ → JobConfig → ℕ → Decision JobResult
 planned picture width height dstLen config scratchLen =
-    plan (jobOf (gray8 picture width height width) (layout dstLen width height width) config scratchLen 4096)
+    plan (jobOf (gray8 picture width height width) (layout dstLen width height width) config scratchLen mostPixels)
 
 abbrev pub jobMade : Record → JobConfig → List ℕ → JobResult → Made
 jobMade r config picture result =
@@ -103,7 +111,7 @@ jobMade r config picture result =
 abbrev pub wholeJob : Record → Float → List ℕ → Decision Made
 wholeJob r relaxation picture =
     let config = recordJob r relaxation in
-    makes (jobMade r config picture) (planned picture (r .width) (r .height) (r .width * r .height) config 12288)
+    makes (jobMade r config picture) (planned picture (r .width) (r .height) (r .width * r .height) config lineScratch)
 
 -- the binomial's result is its job
 abbrev pub binomialMade : Record → List ℕ → Unit {0} → Made
@@ -114,7 +122,7 @@ binomialStage r picture =
     makes (binomialMade r picture)
     (decided
     (binomialRefusal (length picture) (r .width) (r .height) (r .width) (r .width * r .height) (r .width) (r .height)
-    (r .width) 4096)
+    (r .width) mostPixels)
     tt)
 
 abbrev pub stageOf : RecordFilter → Record → List ℕ → Decision Made

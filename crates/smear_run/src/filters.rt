@@ -1,4 +1,4 @@
-// The filters of a record on a tight picture of at most 4,096 pixels. Each owns its scratch.
+// The filters of a record on a tight picture of at most `MOST_PIXELS`. Each owns its scratch.
 ghost use mathlib.Core.Path.{_≡_};
 ghost use Prim.Native.Nat.{_*_};
 ghost use lib.ListN.{length};
@@ -6,6 +6,8 @@ ghost use Rattle.deblur.specs.Settings.{restorationOf, unsharpOf};
 ghost use Rattle.record.specs.Record.{usedIn};
 ghost use Rattle.smear_run.specs.Stage.{recordRestoration, recordUnsharp, lineStage, binomialStage, stage};
 ghost use Rattle.smear_run.specs.Parts.{lineAnswer, binomialAnswer, Filtered};
+use crate::LINE_SCRATCH;
+use crate::MOST_PIXELS;
 use crate::whole_job::whole_job;
 use deblur::DirectionalUnsharpConfig;
 use deblur::RestorationAnswer;
@@ -89,7 +91,7 @@ fn restoration(record: Record, relaxation: f64, picture: &[u8], dst: &mut [u8]) 
     ensures { λ r. ⌜ Filtered (lineStage «record» (restorationOf (recordRestoration «record» relaxation))
         (now (picture .entry))) «record» (now (dst .entry)) (now (dst .exit)) r ⌝ }
 {
-    let mut scratch = [0i32; 12288];
+    let mut scratch = [0i32; LINE_SCRATCH];
     let width = record.width as usize;
     let height = record.height as usize;
     let config = restoration_config(record, relaxation);
@@ -114,7 +116,7 @@ fn unsharp(record: Record, gain: f64, picture: &[u8], dst: &mut [u8]) -> FilterA
     ensures { λ r. ⌜ Filtered (lineStage «record» (unsharpOf (recordUnsharp «record» gain)) (now (picture .entry)))
         «record» (now (dst .entry)) (now (dst .exit)) r ⌝ }
 {
-    let mut scratch = [0i32; 12288];
+    let mut scratch = [0i32; LINE_SCRATCH];
     let width = record.width as usize;
     let height = record.height as usize;
     let config = unsharp_config(record, gain);
@@ -149,7 +151,7 @@ fn binomial(record: Record, picture: &[u8], dst: &mut [u8]) -> FilterAnswer
     ensures { λ r. ⌜ Filtered (binomialStage «record» (now (picture .entry))) «record»
         (now (dst .entry)) (now (dst .exit)) r ⌝ }
 {
-    let mut scratch = [0u16; 4096];
+    let mut scratch = [0u16; MOST_PIXELS];
     let width = record.width as usize;
     let height = record.height as usize;
     let answer = sharpen::fixed_binomial_unsharp_into(

@@ -7,6 +7,15 @@ mod output;
 mod text;
 mod whole_job;
 
+// The largest picture, in pixels.
+pub const MOST_PIXELS: usize = 4096;
+
+// How many bytes are printed at most: the largest picture's pixels and a record.
+pub const MOST_PRINTED: usize = MOST_PIXELS + 32;
+
+// How many i32 a line filter asks for at most.
+const LINE_SCRATCH: usize = 3 * MOST_PIXELS;
+
 pub enum RunAnswer {
     // How many bytes are printed.
     Written(usize),
@@ -15,12 +24,12 @@ pub enum RunAnswer {
 }
 
 // What the program prints for a job's record and a tight picture, in the front of `out`: pixels and the result's
-// record, or a text. 10 where `out` is shorter than that, which is at most 4,128 bytes. On the stack: 4,128 bytes here,
-// and what the filter owns (`filters`, `whole_job`).
+// record, or a text. 10 where `out` is shorter than that, which is at most `MOST_PRINTED`. On the stack: 4,128 bytes
+// here, and what the filter owns (`filters`, `whole_job`).
 pub fn run(job: &[u8], picture: &[u8], out: &mut [u8]) -> RunAnswer
     ensures { λ r. ⌜ Ran (now (job .entry)) (now (picture .entry)) (now (out .entry)) (now (out .exit)) r ⌝ }
 {
-    let mut made = [0u8; 4128];
+    let mut made = [0u8; MOST_PRINTED];
     let n = compose(job, picture, &mut made);
     if out.len() < n {
         return RunAnswer::Refused(10);

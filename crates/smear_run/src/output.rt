@@ -4,6 +4,7 @@ ghost use Prim.Native.Nat.{_+_, _≤_};
 ghost use lib.ListN.{length, take};
 ghost use Rattle.smear_run.specs.Output.{jobOutput, output};
 ghost use Rattle.smear_run.specs.Parts.{Legible, Writable, finished, Front};
+use crate::MOST_PIXELS;
 use crate::filters::FilterAnswer;
 use crate::filters::filter;
 use crate::text::put_refusal;
@@ -35,7 +36,7 @@ fn compose_record(record: Record, picture: &[u8], made: &mut [u8]) -> usize
         return put_refusal(13, made);
     }
     let n = record.width as usize * record.height as usize;
-    if n > 4096 {
+    if n > MOST_PIXELS {
         return put_too_large(made);
     }
     let answer = filter(record, picture, &mut made[..n]);

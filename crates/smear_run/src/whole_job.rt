@@ -4,6 +4,8 @@ ghost use Prim.Native.Nat.{_*_, _<_};
 ghost use lib.ListN.{length};
 ghost use Rattle.smear_run.specs.Stage.{recordJob, wholeJob, jobResult};
 ghost use Rattle.smear_run.specs.Parts.{Measured, Filtered};
+use crate::LINE_SCRATCH;
+use crate::MOST_PIXELS;
 use crate::filters::FilterAnswer;
 use crate::filters::used;
 use job::JobAnswer;
@@ -12,7 +14,7 @@ use job::JobResult;
 use record::Record;
 use swings::Swing;
 
-// The job on a tight picture of at most 4,096 pixels; `none` stands where no swing is written. On the stack: 4,096
+// The job on a tight picture of at most `MOST_PIXELS`; `none` stands where no swing is written. On the stack: 4,096
 // records, 65,536 bytes, and 32,768 of `blur`'s counts.
 fn restore(
     picture: &[u8],
@@ -26,7 +28,7 @@ fn restore(
     ensures { λ r. ⌜ Measured (now (picture .entry)) width height config (length (now (scratch .entry)))
         (now (dst .entry)) (now (dst .exit)) r ⌝ }
 {
-    let mut swings = [none; 4096];
+    let mut swings = [none; MOST_PIXELS];
     job::restore(
         picture,
         width,
@@ -81,7 +83,7 @@ pub(crate) fn whole_job(
     ensures { λ r. ⌜ Filtered (wholeJob «record» relaxation (now (picture .entry))) «record»
         (now (dst .entry)) (now (dst .exit)) r ⌝ }
 {
-    let mut scratch = [0i32; 12288];
+    let mut scratch = [0i32; LINE_SCRATCH];
     let none = Swing {
         width: 0.0,
         swing: 0,

@@ -15,6 +15,7 @@ use Rattle.numbers.specs.Sum.{total}
 use Rattle.numbers.proofs.Int.Size.{natAbs-add, natAbs-mul, size-sfits}
 use Rattle.numbers.proofs.List.{getD-part}
 use Rattle.numbers.proofs.Sum.{total-zero, total-next}
+use Rattle.image.specs.Refusal.{maxSide}
 use Rattle.tensor.specs.Tensor.{Gradient}
 
 pub gradient-held : {w : Width} {z r : ℤ} → SFits w r → Gradient z r → Gradient z (toZ w (ofZ w r))
@@ -54,7 +55,7 @@ sofar-all {g} s e = s .sum ∙ ap (total g 0) e
 -- ---- along a row: products of two gradients, of size 1,020 × 1,020 at most
 
 module _ {f : ℕ → ℤ} {x : ℕ} {s p q y z : ℤ} (so : Sofar f 1040400 x s) (g : Gradient y p) (h : Gradient z q) where
-  pub product-fits : x < 1024 → natAbs s + natAbs p * natAbs q < 2 ^ 31
+  pub product-fits : x < maxSide → natAbs s + natAbs p * natAbs q < 2 ^ 31
   product-fits b = omega (arith, so .small, product-small g h)
 
   pub product-next : {r : ℤ} → y *ℤ z ≡ f x → SFits w32 r → r ≡ s +ℤ p *ℤ q

@@ -9,7 +9,7 @@ use lib.IntN.{ℤ, pos, natAbs, _+ℤ_, _-ℤ_, _*ℤ_}
 use lib.ListN.{length, getD}
 use lib.Signed.{leZ, ltZ}
 use Rattle.image.specs.Call.{Gray8, Decision, accepts, refuses, decided}
-use Rattle.image.specs.Refusal.{layoutRefusal}
+use Rattle.image.specs.Refusal.{maxSide, layoutRefusal}
 use Rattle.image.specs.Picture.{pixel}
 use Rattle.numbers.specs.Sum.{total}
 use Rattle.raster.specs.declared.direction.RasterDirection4.{RasterDirection4}
@@ -100,9 +100,9 @@ threeRows above here below c zero = getD above c 0
 threeRows above here below c (suc zero) = getD here c 0
 threeRows above here below c (suc (suc r)) = getD below c 0
 
--- .. of one length, at most 1,024
+-- .. of one length, that of an accepted row at most
 pub record Rows (above here below : List ℕ) : Type 0 where
-  pub most : length here ≤ 1024
+  pub most : length here ≤ maxSide
   pub same-above : length above ≡ length here
   pub same-below : length below ≡ length here
 

@@ -3,6 +3,7 @@ use crate::case::Case;
 use crate::lengths::length_at;
 use blur::length::LengthAnswer;
 use blur::length::LineLength;
+use blur::length::LineLengthConfig;
 use deblur::DirectionalUnsharpConfig;
 use deblur::RestorationAnswer;
 use deblur::VanCittertConfig;
@@ -11,6 +12,7 @@ use deblur::van_cittert_line_into;
 use raster::border::LineBorderMode;
 use raster::direction::RasterDirection4;
 use sharpen::fixed_binomial_unsharp_into;
+use swings::Swing;
 use tensor::direction::DirectionAnswer;
 use tensor::estimate_line_direction;
 
@@ -133,14 +135,22 @@ fn binomial(c: Case, source: &[u8], destination: &mut [u8]) -> Outcome {
 }
 
 fn measure(c: Case, source: &[u8]) -> Outcome {
+    let config = LineLengthConfig {
+        minimum_transitions: c.count,
+        minimum_amplitude: c.amplitude,
+    };
+    let none = Swing {
+        width: 0.0,
+        swing: 0,
+    };
     length_outcome(length_at(
         source,
         c.source.width,
         c.source.height,
         c.source.stride,
         c.angle,
-        c.count,
-        c.amplitude,
+        config,
+        none,
     ))
 }
 

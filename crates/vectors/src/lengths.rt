@@ -4,36 +4,33 @@ ghost use Rattle.raster.specs.Direction.{fromAngle};
 ghost use Rattle.image.specs.Call.{gray8};
 ghost use Rattle.blur.specs.Length.{lengthDecision, lengthAnswer};
 use blur::length::LengthAnswer;
-use blur::length::estimate_at;
+use blur::length::LineLengthConfig;
+use blur::length::estimate_line_length_with;
 use swings::Swing;
 
-// The length of a picture of at most 256 pixels. Its contract says nothing of the records, so whoever calls it needs no
-// walk.
+// The length of a picture of at most 256 pixels; `none` stands where no swing is written. Its contract says nothing of
+// the records, so whoever calls it needs no walk.
 pub(crate) fn length_at(
     data: &[u8],
     width: usize,
     height: usize,
     stride: usize,
     theta_radians: f64,
-    minimum_transitions: usize,
-    minimum_amplitude: u8,
+    config: LineLengthConfig,
+    none: Swing,
 ) -> LengthAnswer
     ensures { λ r. ⌜ r ≡ lengthAnswer
         (lengthDecision (gray8 (now («data» .entry)) width height stride) (fromAngle «theta_radians»)
-        «minimum_transitions» «minimum_amplitude» 256) ⌝ }
+        (config .«minimum_transitions») (config .«minimum_amplitude») 256) ⌝ }
 {
-    let mut swings = [Swing {
-        width: 0.0,
-        swing: 0,
-    }; 256];
-    estimate_at(
+    let mut swings = [none; 256];
+    estimate_line_length_with(
         data,
         width,
         height,
         stride,
         theta_radians,
-        minimum_transitions,
-        minimum_amplitude,
+        config,
         &mut swings,
     )
 }

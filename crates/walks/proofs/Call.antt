@@ -1,6 +1,5 @@
 -- What a caller hands to a callee, and what it has once a callee has returned plain data, as steps of `types.Kit`'s
 -- calculus.
---     stating      a fact that is shown, put into the context as a callee's `requires` asks it
 --     answers      the callee's `post` at the head: the result r and the last values ws with the fact that the
 --                  `ensures` states of them, and that the machine value is r's. The tokens and what says the last
 --                  values stay
@@ -20,7 +19,7 @@ use base.Logic.{ent, emp, id⊢}
 use prog.Wp.{Heap, Env, Calls, Loops, noLocal}
 use ghost.Atoms.{Atoms}
 use sound.WpLaws.{FmC}
-use contract.Monad.{fact, factI}
+use contract.Monad.{fact}
 use types.Kit.{Goal, Soaks, Given, Item, ‵, raw, _⊛_, some, later, Post, runs, lands, Seq, Step, step, _$_, move, drop}
 use types.Kit.{use0, use1, split, pick, await, regoal}
 use denote.Laws.{Is, shows}
@@ -35,9 +34,6 @@ use Rattle.walks.proofs.Straight.{values, calls-in}
 
 module _ {M : Type 1} {𝓤 : URA M} {H : Heap 𝓤} {A : Atoms 𝓤} {K : Type 0} {W : Given 𝓤 H A} {Γ : List (Item 𝓤)} {G :
     Goal 𝓤 H} where
-  pub stating : K → (φ : Type 0) → φ → Step K W (raw (fact 𝓤 φ) ∷ Γ) G Γ G
-  stating t φ x = use0 W (raw (fact 𝓤 φ)) (factI 𝓤 φ (emp 𝓤) x)
-
   pub answers : K → Soaks G → (T : Ended) (c : Clauses 𝓤 T) (y : tripleOf 𝓤 H A (T .signature) (closing 𝓤 H A T c)
       .Ghost) (v : Val) (φ : Res (T .signature) (y .0 .0) → Lasts T (y .0 .0) (y .0 .3) → Type 0)
       → ((r : Res (T .signature) (y .0 .0)) (ws : Lasts T (y .0 .0) (y .0 .3))

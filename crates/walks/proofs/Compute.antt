@@ -16,7 +16,7 @@ use prog.Wp.{Heap, Calls, Loops, Closed, WpFn}
 use ghost.Atoms.{Atoms, sem}
 use contract.Lifetimes.{Lfts}
 use contract.Running.{Running, GhostRules, givenOf, tables}
-use types.Kit.{Given, ‵, raw, _⊛_, later, runs, atRet, _$_, _∵_, !, qed, by, move, keep, use0, use1, use2, split, join}
+use types.Kit.{Given, ‵, raw, _⊛_, later, runs, _$_, _∵_, !, qed, by, move, keep, use0, use1, use2, split, join}
 use types.Kit.{updating, now as at-once, await, show, frame, regoal, done, Item, Post, Go, Seq}
 use denote.RattleType.{RattleType, owns}
 use denote.Laws.{Is, Ises, Are, valss}

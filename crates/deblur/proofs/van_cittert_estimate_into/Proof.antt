@@ -1,14 +1,9 @@
 -- `deblur::van_cittert_estimate_into` meets its contract: refused by its number, or the work along the direction.
-use mathlib.Core.List.{List}
-use mathlib.Core.Path.{_≡_}
-use lib.IntN.{ℤ}
-use lib.ListN.{length}
-use Rattle.image.specs.Call.{Gray8, gray8}
-use Rattle.deblur.specs.Calls.{estimateNumber}
-use Rattle.deblur.specs.Settings.{LineFilter, restorationOf}
-use Rattle.deblur.proofs.Calls.{restoration-sound, relaxation-small, estimate-settings, estimate-asked}
-use Rattle.deblur.proofs.Calls.{estimate-refused, estimate-done}
 use borrow.Author.Needs.{needs}
+use Rattle.image.specs.Call.{gray8}
+use Rattle.deblur.specs.Settings.{restorationOf}
+use Rattle.deblur.proofs.Calls.{estimateCall, Told, refused, accepted, asked, done}
+use Rattle.deblur.proofs.Calls.{restoration-sound, relaxation-small}
 use Rattle.deblur.proofs.van_cittert_estimate_into.Statement.{statement}
 use Rattle.deblur.proofs.van_cittert_estimate_into.Tie as tie
 
@@ -18,29 +13,15 @@ restoration-refusal-requires c κs = search needs
 estimate-refusal-requires : tie.Need-estimate-refusal-requires
 estimate-refusal-requires c κs = search needs
 
--- the call's picture and destination, and what its settings come to
-module _ (c : tie.After-estimate-refusal) where
-  abbrev start : tie.Start
-  start = c .before .before .before
-
-  abbrev src : Gray8
-  src = let a = start .args in gray8 (a .«data» .now) (a .width) (a .height) (a .stride)
-
-  abbrev old : List ℤ
-  old = start .args .dst .now
-
-  abbrev filter : LineFilter
-  filter = restorationOf (start .args .config)
-
-  abbrev lent : List ℤ
-  lent = start .args .scratch .now
-
-  number-is : c .estimate-refusal .result ≡ estimateNumber src (length old) filter (length lent)
-  number-is = rw (c .before .restoration-refusal .ensures) at (c .estimate-refusal .ensures)
+told : (c : tie.After-estimate-refusal)
+    → let a = c .before .before .before .args in
+    Told (estimateCall (gray8 (a .«data» .now) (a .width) (a .height) (a .stride)) (a .dst .now)
+    (restorationOf (a .config)) (a .scratch .now))
+    (c .estimate-refusal .result)
+told c = record { is = rw (c .before .restoration-refusal .ensures) at (c .estimate-refusal .ensures) }
 
 returns : tie.Need-returns
-returns c = estimate-refused (src (c .before)) (old (c .before)) (filter (c .before)) (lent (c .before))
-    (number-is (c .before)) (c .if1 .taken)
+returns c = refused (told (c .before)) (c .if1 .taken)
 
 from-angle-requires : tie.Need-from-angle-requires
 from-angle-requires c κs = search needs
@@ -48,15 +29,14 @@ from-angle-requires c κs = search needs
 line-kernel-requires : tie.Need-line-kernel-requires
 line-kernel-requires c κs =
     let d = c .before .before in
-    relaxation-small (start d .args .config) _ _
-    (estimate-settings (src d) (old d) (filter d) (lent d) (number-is d) (c .before .if1 .left))
+    relaxation-small (d .before .before .before .args .config) _ _
+    (accepted (told d) (c .before .if1 .left) .settings)
 
 estimates-along-requires : tie.Need-estimates-along-requires
 estimates-along-requires c κs =
     let k = c .before .before in
-    let d = k .before .before .before in
-    estimate-asked (src d) (old d) (filter d) (lent d) (number-is d) (k .before .before .if1 .left)
-    (restoration-sound _) (k .line-kernel .ensures)
+    asked (told (k .before .before .before)) (k .before .before .if1 .left) (restoration-sound _)
+    (k .line-kernel .ensures)
 
 same-length : tie.Need-same-length
 same-length c = search needs
@@ -68,9 +48,7 @@ returns-2 : tie.Need-returns-2
 returns-2 c =
     let r = c .before .before in
     let k = r .before .before .before in
-    let d = k .before .before .before in
-    estimate-done (src d) (old d) (filter d) (lent d) (number-is d) (k .before .before .if1 .left)
-    (k .before .from-angle .ensures)
+    done (told (k .before .before .before)) (k .before .before .if1 .left) (k .before .from-angle .ensures)
     (k .line-kernel .ensures) (r .estimates-along .ensures)
 
 pub van-cittert-estimate-into-spec : {M : Type 1} → statement M

@@ -1,4 +1,4 @@
--- `floats::factor_of_q16` meets its contract, once the literal 65536.0 is computed.
+-- `floats::factor_of_q16` meets its contract, once the scale as a double is computed.
 use mathlib.Core.Path.{refl}
 use lib.Ieee.{ofBits}
 use borrow.Author.Needs.{needs}

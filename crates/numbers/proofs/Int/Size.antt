@@ -52,6 +52,10 @@ natAbs-shr (negsuc a) m k p h = div-lt-iff-lt-mul p .1 h
 pub natAbs-zero : (z : ℤ) → natAbs z ≡ 0 → z ≡ pos 0
 natAbs-zero z e = omega (arith, linear, natAbs-up-dn z)
 
+pub natAbs-pos : (z : ℤ) → pos 0 ≤ℤ z → pos (natAbs z) ≡ z
+natAbs-pos (pos n) h = refl
+natAbs-pos (negsuc n) h = absurd (h .le)
+
 -- ---- a bound on the size is a bound on both sides
 
 pub natAbs-≤ : (z : ℤ) {b : ℕ} → negℤ (pos b) ≤ℤ z → z ≤ℤ pos b → natAbs z ≤ b

@@ -28,7 +28,14 @@ float-to-bits-t11 c =
 
 returns : tie.Need-returns
 unfolding fieldsOf
-returns c = cc
+returns c =
+    let v = c .before .before in
+    rw (
+      v .before .before .before .code .ensures,
+      v .before .before .index .ensures,
+      v .before .code2 .ensures,
+      v .value .ensures,
+    )
 
 pub fields-of-spec : {M : Type 1} → statement M
 fields-of-spec =

@@ -21,7 +21,7 @@ float-to-bits-result c =
 
 returns : tie.Need-returns
 unfolding isJob
-returns c = cc
+returns c = rw (c .before .index .ensures)
 
 returns-2 : tie.Need-returns-2
 unfolding isJob

@@ -23,7 +23,7 @@ float-from-bits-t6 c = let first = c .before in finite-pattern _ (within (first 
 
 returns : tie.Need-returns
 unfolding recordOf
-returns c = cc
+returns c = let k = c .before .before in rw (k .before .from-index .ensures, k .from-code .ensures)
 
 pub record-of-spec : {M : Type 1} → statement M
 record-of-spec =

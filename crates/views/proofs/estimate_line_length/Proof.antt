@@ -1,13 +1,14 @@
 -- `views::estimate_line_length` meets its contract: it takes its views apart and calls the core.
 use mathlib.Core.Path.{refl}
 use mathlib.Core.List.{List, [], _∷_}
+use lib.Ieee.{binary64}
 use base.Logic.{id⊢}
 use contract.Running.{givenOf, tablesOf}
 use denote.Enum.Laws as EL
+use Rattle.walks.proofs.Data.{double, value}
 use Rattle.walks.proofs.Forward.{Kind, forwards}
 use Rattle.walks.proofs.Parameters.{lent}
 use Rattle.image.proofs.ViewParameters.{view}
-use Rattle.blur.proofs.Parameters.{angle}
 use Rattle.swings.proofs.Swing as T1
 use Rattle.blur.proofs.length.LengthAnswer as T
 use Rattle.blur.proofs.length.LengthAnswer.Laws as T′
@@ -20,7 +21,7 @@ use Rattle.views.proofs.estimate_line_length.Statement.{statement}
 use Rattle.views.proofs.estimate_line_length.Code as code
 
 abbrev parameters : List (Kind 2)
-parameters = view 0 tt ∷ angle ∷ lent 1 tt T1.the-row ∷ []
+parameters = view 0 tt ∷ value (double binary64) ∷ lent 1 tt T1.the-row ∷ []
 
 pub estimate-line-length-spec : {M : Type 1} → statement M
 unfolding code.routine tablesOf

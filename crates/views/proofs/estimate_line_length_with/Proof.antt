@@ -1,13 +1,14 @@
 -- `views::estimate_line_length_with` meets its contract: it takes its views apart and calls the core.
 use mathlib.Core.Path.{refl}
 use mathlib.Core.List.{List, [], _∷_}
+use lib.Ieee.{binary64}
 use base.Logic.{id⊢}
 use contract.Running.{givenOf, tablesOf}
 use denote.Enum.Laws as EL
+use Rattle.walks.proofs.Data.{double, value}
 use Rattle.walks.proofs.Forward.{Kind, forwards}
 use Rattle.walks.proofs.Parameters.{struct-of, lent}
 use Rattle.image.proofs.ViewParameters.{view}
-use Rattle.blur.proofs.Parameters.{angle}
 use Rattle.blur.proofs.length.LineLengthConfig as T1
 use Rattle.blur.proofs.length.LineLengthConfig.Laws as T1′
 use Rattle.swings.proofs.Swing as T2
@@ -22,7 +23,8 @@ use Rattle.views.proofs.estimate_line_length_with.Statement.{statement}
 use Rattle.views.proofs.estimate_line_length_with.Code as code
 
 abbrev parameters : List (Kind 2)
-parameters = view 0 tt ∷ angle ∷ struct-of T1.the-type T1′.the-laws T1′.mir refl ∷ lent 1 tt T2.the-row ∷ []
+parameters = view 0 tt ∷ value (double binary64) ∷ struct-of T1.the-type T1′.the-laws T1′.mir refl ∷ lent 1 tt
+    T2.the-row ∷ []
 
 pub estimate-line-length-with-spec : {M : Type 1} → statement M
 unfolding code.routine tablesOf

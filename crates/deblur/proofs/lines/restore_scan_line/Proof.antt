@@ -7,7 +7,7 @@ use borrow.Author.Needs.{needs}
 use lib.ListN.{length}
 use Rattle.raster.specs.Lines.{byteOf}
 use Rattle.line.proofs.BorderByte.{kernel-byte}
-use Rattle.deblur.proofs.LineByLine.{line-start, line-laid, line-estimates}
+use Rattle.deblur.proofs.LineByLine.{line-start, line-asked, line-estimates}
 use Rattle.deblur.proofs.lines.restore_scan_line.Statement.{statement}
 use Rattle.deblur.proofs.lines.restore_scan_line.Tie as tie
 
@@ -35,7 +35,7 @@ restore-line-requires : tie.Need-restore-line-requires
 restore-line-requires c κs =
     let s = c .before .before .before .before .before .before in
     let l = c .before .before .before .before in (
-      line-laid (s .pre .0 .walked .laid) (s .args .direction) (s .args .k) (s .pre .1) (l .line-at .result)
+      line-asked (s .pre .0 .walked .laid) (s .args .direction) (s .args .k) (s .pre .1) (l .line-at .result)
           (l .line-at .ensures) _ (c .before .place-step .ensures) _ (s .pre .0 .room),
       s .pre .0 .taken,
     )

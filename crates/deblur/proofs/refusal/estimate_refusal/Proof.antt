@@ -1,6 +1,6 @@
 -- `deblur::refusal::estimate_refusal` meets its contract.
 use native.Mathlib.Omega.{arith}
-use mathlib.Core.Path.{_≡_, sym, _∙_}
+use mathlib.Core.Path.{sym, _∙_}
 use Rattle.image.specs.Refusal.{Laid}
 use Rattle.image.proofs.Refusal.{laid, accepted, area-most}
 use Rattle.deblur.proofs.Refusals.{estimate-pictures, estimate-lent}

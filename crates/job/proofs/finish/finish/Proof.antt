@@ -8,8 +8,8 @@ use Rattle.job.proofs.finish.finish.Statement.{statement}
 use Rattle.job.proofs.finish.finish.Tie as tie
 
 plan-job-requires : tie.Need-plan-job-requires
-plan-job-requires c κs = λ e.
-    let l = c .before .before .pre e .pictures .source in
+plan-job-requires c κs =
+    let l = c .before .before .pre .pictures .source in
     record {
       some-columns = l .width-pos;
       some-rows = l .height-pos;
@@ -39,9 +39,7 @@ line-kernel-requires : tie.Need-line-kernel-requires
 line-kernel-requires c κs =
     let s = start c in
     let a = s .args in
-    finish-factor (a .start .refusal) (a .start .direction) (lengthIn (a .measured)) (source s)
-    (destination s) (a .config) _ (s .pre)
-    (sym (c .before .answer .given .1) ∙ planned c .plan-job .ensures)
+    finish-factor (a .direction) (lengthIn (a .measured)) (source s) (destination s) (a .config) (s .pre)
 
 restore-along-requires : tie.Need-restore-along-requires
 restore-along-requires c κs =
@@ -49,7 +47,7 @@ restore-along-requires c κs =
     let told = k .before in
     let s = start told in
     let a = s .args in
-    finish-asked (a .start .refusal) (a .start .direction) (lengthIn (a .measured)) (source s)
+    finish-asked (a .direction) (lengthIn (a .measured)) (source s)
     (destination s) (a .config) _ (s .pre)
     (sym (told .before .answer .given .1) ∙ planned told .plan-job .ensures) (k .line-kernel .ensures)
 
@@ -69,7 +67,7 @@ returns c =
     let told = k .before in
     let s = start told in
     let a = s .args in
-    finish-done (a .start .refusal) (a .start .direction) (lengthIn (a .measured)) (source s)
+    finish-done (a .direction) (lengthIn (a .measured)) (source s)
     (destination s) (a .config) _ _ _ _
     (sym (told .before .answer .given .1) ∙ planned told .plan-job .ensures) refl (k .line-kernel .ensures)
     (r .restore-along .ensures)
@@ -80,7 +78,7 @@ returns-2 c =
     let planned = known .before .before in
     let s = planned .before .before .before in
     let a = s .args in
-    finish-refused (a .start .refusal) (a .start .direction) (lengthIn (a .measured)) (source s)
+    finish-refused (a .direction) (lengthIn (a .measured)) (source s)
     (destination s) (a .config) _ _
     (sym (known .answer2 .given .1) ∙ planned .plan-job .ensures)
 

@@ -6,6 +6,7 @@ use lib.ListN.{length, set}
 use mir.Syntax.{w32, w64}
 use mir.Val.{toZ, ofZ}
 use mir.Facts.{toZ-ofZ}
+use Rattle.image.specs.Refusal.{maxSide}
 use Rattle.line.specs.Kernel.{windowAt, MeansWritten}
 use Rattle.line.proofs.KernelSum.{told}
 use Rattle.line.proofs.KernelMean.{window-size, window-slides, window-on, sample-kept, asked-kept}
@@ -50,7 +51,7 @@ module _ (c : tie.After-floor-mean Inv-loop μ-loop) where
       (told (record { sfits = c .floor-mean .ok }) (c .floor-mean .ensures))
 
   -- what a sample asks after it
-  sampled : (1 ≤ start .args .settings .n) × (start .args .settings .n ≤ 1024)
+  sampled : (1 ≤ start .args .settings .n) × (start .args .settings .n ≤ maxSide)
       × (3 * start .args .settings .n
       ≤ length (set (at-loop .loop .scratch) (start .args .settings .n + start .args .settings .n + at-loop .loop .p)
       (toZ w32 (ofZ w32 (c .floor-mean .result)))))

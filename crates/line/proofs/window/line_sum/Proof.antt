@@ -8,6 +8,7 @@ use mir.Val.{toZ}
 use mir.Facts.{toZ-ofZ}
 use Rattle.numbers.specs.Sum.{total}
 use Rattle.numbers.proofs.Sum.{total-zero, total-within}
+use Rattle.image.specs.Refusal.{maxSide}
 use Rattle.line.specs.Kernel.{lineAt, largest}
 use Rattle.line.proofs.KernelSum.{told, largest-most, total-on}
 use Rattle.line.proofs.window.line_sum.Statement.{statement}
@@ -42,7 +43,7 @@ slide-requires c κs =
     (omega (
       arith,
       total-within line 0 (l .i) (largest r) (λ i _ h. a .small i (omega (arith, s .pre))),
-      mul-le-mul {n₁ = l .i} {n₂ = 1024} (omega (arith, a .short)) (largest-most r),
+      mul-le-mul {n₁ = l .i} {n₂ = maxSide} (omega (arith, a .short)) (largest-most r),
     ))
 
 add-i : tie.Need-add-i Inv-loop μ-loop

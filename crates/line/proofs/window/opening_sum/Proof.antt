@@ -10,7 +10,7 @@ use Rattle.numbers.specs.Sum.{total}
 use Rattle.numbers.proofs.Sum.{total-zero}
 use Rattle.raster.specs.Border.{borderMap}
 use Rattle.line.specs.Line.{sample}
-use Rattle.line.specs.Kernel.{lineAt}
+use Rattle.line.specs.Kernel.{longestBlur, lineAt}
 use Rattle.line.proofs.KernelSum.{told, largest-most, total-on}
 use Rattle.line.proofs.KernelMean.{opening-size}
 use Rattle.line.proofs.window.opening_sum.Statement.{statement}
@@ -36,7 +36,7 @@ slide-requires c κs =
     let l = at-loop .loop in
     let a = s .pre .0 in
     let r = s .args .settings .reciprocal in
-    let most = mul-le-mul {n₁ = l .u} {n₂ = 2049} (omega (arith, a .divides)) (largest-most r) in
+    let most = mul-le-mul {n₁ = l .u} {n₂ = longestBlur} (omega (arith, a .divides)) (largest-most r) in
     rw (l .inv .1) (omega (arith, opening-size (s .args .settings) a (l .u), most))
 
 add-u : tie.Need-add-u Inv-loop μ-loop

@@ -7,7 +7,7 @@ use lib.IntN.{pos, _+ℤ_, _*ℤ_}
 use mir.Syntax.{w64}
 use mir.Val.{toZ, ofZ}
 use Rattle.numbers.proofs.Int.Machine.{fits-as, held}
-use Rattle.line.specs.Kernel.{windowAt}
+use Rattle.line.specs.Kernel.{longestBlur, windowAt}
 use Rattle.line.proofs.KernelSum.{told, largest-most}
 use Rattle.line.proofs.KernelMean.{window-fits, opening-size, opening-whole}
 use Rattle.line.proofs.KernelFirst.{periodic-window}
@@ -35,7 +35,7 @@ times-requires c κs =
     let a = s .pre .0 in
     let period = s .args .period in
     let r = s .args .settings .reciprocal in
-    let most = mul-le-mul {n₁ = period} {n₂ = 2049} (omega (arith, a .divides)) (largest-most r) in (
+    let most = mul-le-mul {n₁ = period} {n₂ = longestBlur} (omega (arith, a .divides)) (largest-most r) in (
       omega (arith, div-le-self (s .args .settings .«blur_length») period, a .divides),
       rw (told (record { sfits = c .opening-sum2 .ok }) (c .opening-sum2 .ensures))
           (omega (arith, opening-size (s .args .settings) a period, most)),

@@ -42,7 +42,16 @@ number-at-requires-5 c κs = search needs
 
 returns : tie.Need-returns
 unfolding decoded
-returns c = cc
+returns c =
+    let n = c .before .before .before .before in
+    rw (
+      n .before .before .before .before .head-in .ensures,
+      n .number-at .ensures .0,
+      c .before .before .before .number-at2 .ensures .0,
+      c .before .before .number-at3 .ensures .0,
+      c .before .number-at4 .ensures .0,
+      c .number-at5 .ensures .0,
+    )
 
 pub fields-in-spec : {M : Type 1} → statement M
 fields-in-spec =

@@ -21,7 +21,7 @@ shared-slice-read-t7 c = search needs
 
 returns : tie.Need-returns
 unfolding decodedHead
-returns c = cc
+returns c = rw (c .before .before .number-at .ensures .0, c .before .number-at2 .ensures .0)
 
 pub head-in-spec : {M : Type 1} → statement M
 head-in-spec =

@@ -5,20 +5,11 @@ use Rattle.record.specs.Fields.{countBytes}
 use Rattle.record.proofs.fields.put_counts.Statement.{statement}
 use Rattle.record.proofs.fields.put_counts.Tie as tie
 
-cast-put-number : tie.Need-cast-put-number
-cast-put-number c = search needs
-
 put-number-requires : tie.Need-put-number-requires
 put-number-requires c κs = search needs
 
-cast-put-number-2 : tie.Need-cast-put-number-2
-cast-put-number-2 c = search needs
-
 put-number-requires-2 : tie.Need-put-number-requires-2
 put-number-requires-2 c κs = search needs
-
-cast-put-number-3 : tie.Need-cast-put-number-3
-cast-put-number-3 c = search needs
 
 put-number-requires-3 : tie.Need-put-number-requires-3
 put-number-requires-3 c κs = search needs
@@ -28,17 +19,18 @@ same-length c = search needs
 
 returns : tie.Need-returns
 unfolding countBytes bytesOf
-returns c = cc
+returns c =
+    let third = c .before .before in
+    let second = third .before .before .before .before in
+    let first = second .before .before .before .before in
+    rw (third .put-number3 .ensures, second .put-number2 .ensures, first .put-number .ensures)
 
 pub put-counts-spec : {M : Type 1} → statement M
 put-counts-spec =
     tie.close
     (tie.spec
-    cast-put-number
     put-number-requires
-    cast-put-number-2
     put-number-requires-2
-    cast-put-number-3
     put-number-requires-3
     same-length
     returns)

@@ -16,7 +16,10 @@ same-length c = search needs
 
 returns : tie.Need-returns
 unfolding doubleBytes bytesOf
-returns c = cc
+returns c =
+    let second = c .before .before in
+    let first = second .before .before .before .before in
+    rw (second .put-number2 .ensures, first .put-number .ensures)
 
 pub put-doubles-spec : {M : Type 1} → statement M
 put-doubles-spec =

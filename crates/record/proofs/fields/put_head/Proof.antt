@@ -7,14 +7,8 @@ use Rattle.record.specs.Fields.{headBytes}
 use Rattle.record.proofs.fields.put_head.Statement.{statement}
 use Rattle.record.proofs.fields.put_head.Tie as tie
 
-cast-put-number : tie.Need-cast-put-number
-cast-put-number c = search needs
-
 put-number-requires : tie.Need-put-number-requires
 put-number-requires c κs = search needs
-
-cast-put-number-2 : tie.Need-cast-put-number-2
-cast-put-number-2 c = search needs
 
 put-number-requires-2 : tie.Need-put-number-requires-2
 put-number-requires-2 c κs = search needs
@@ -36,15 +30,16 @@ same-length c = simp length-set (omega arith)
 
 returns : tie.Need-returns
 unfolding headBytes bytesOf
-returns c = cc
+returns c =
+    let second = c .before .before in
+    let first = second .before .before .before .before in
+    rw (second .put-number2 .ensures, first .put-number .ensures)
 
 pub put-head-spec : {M : Type 1} → statement M
 put-head-spec =
     tie.close
     (tie.spec
-    cast-put-number
     put-number-requires
-    cast-put-number-2
     put-number-requires-2
     slice-write-bytes
     slice-write-bytes-2

@@ -39,19 +39,23 @@ is-unmeasured-requires-2 c κs = search needs
 
 returns : tie.Need-returns
 unfolding filterLegal
-returns c = rw (c .before .before .enum-told .given .1) cc
+returns c = rw (c .before .before .enum-told .given .1, c .before .is-iterated .ensures, c .is-unmeasured .ensures)
 
 returns-2 : tie.Need-returns-2
 unfolding filterLegal
-returns-2 c = rw (c .before .before .enum-told2 .given .1) cc
+returns-2 c = rw (c .before .before .enum-told2 .given .1, c .before .is-iterated2 .ensures, c .is-length .ensures)
 
 returns-3 : tie.Need-returns-3
 unfolding filterLegal
-returns-3 c = let length = c .before .before in rw (length .before .before .enum-told3 .given .1) cc
+returns-3 c =
+    let m = c .before .before in
+    rw (m .before .before .enum-told3 .given .1, m .before .is-line .ensures, m .is-length2 .ensures)
 
 returns-4 : tie.Need-returns-4
 unfolding filterLegal
-returns-4 c = let read = c .before .before .before in rw (read .before .before .enum-told4 .given .1) cc
+returns-4 c =
+    let m = c .before .before .before .before in
+    rw (m .before .enum-told4 .given .1, m .is-unmeasured2 .ensures)
 
 pub is-filter-spec : {M : Type 1} → statement M
 is-filter-spec =

@@ -9,7 +9,7 @@ is-line-requires c κs = search needs
 
 returns : tie.Need-returns
 unfolding iteratedLegal
-returns c = cc
+returns c = rw (c .before .before .before .is-line .ensures)
 
 pub is-iterated-spec : {M : Type 1} → statement M
 is-iterated-spec = tie.close (tie.spec is-line-requires returns)

@@ -15,7 +15,7 @@ is-estimate-requires c κs = search needs
 
 returns : tie.Need-returns
 unfolding lineLegal
-returns c = cc
+returns c = rw (c .before .before .is-code .ensures, c .before .is-finite-bits .ensures, c .is-estimate .ensures)
 
 pub is-line-spec : {M : Type 1} → statement M
 is-line-spec = tie.close (tie.spec is-code-requires is-finite-bits-requires is-estimate-requires returns)

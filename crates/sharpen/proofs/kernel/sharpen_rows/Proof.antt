@@ -8,6 +8,7 @@ use Rattle.numbers.specs.Written.{Painted}
 use Rattle.numbers.proofs.Places.{pixels-none}
 use Rattle.numbers.proofs.Written.{written-none}
 use Rattle.image.specs.Picture.{pixel}
+use Rattle.image.specs.Refusal.{maxSide}
 use Rattle.image.proofs.Refusal.{row-within}
 use Rattle.sharpen.specs.Binomial.{tapPlace, unsharp}
 use Rattle.sharpen.specs.Passes.{Sums}
@@ -66,7 +67,7 @@ module _ (c : tie.In-loop Inv-loop μ-loop) where
       (tap-lt _ _ i (c .loop-test .taken)))
 
   tap-asked : (i : ℕ) → i ≤ 4 → let a = c .before .before .before .before .before .args in
-      (c .before .loop .y < a .height) × (i ≤ 4) × (a .height ≤ 1024)
+      (c .before .loop .y < a .height) × (i ≤ 4) × (a .height ≤ maxSide)
       × (a .width * a .height ≤ length (a .scratch .now))
   tap-asked i h = (
     c .loop-test .taken,

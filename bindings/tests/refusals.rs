@@ -33,6 +33,20 @@ fn layouts() {
     assert_eq!(layout(9, 3, 3, usize::MAX), Err(LumaError::BufferTooSmall));
 }
 
+/// The smallest view with a byte beside its pixel.
+#[test]
+fn outside_a_view() {
+    let mut bytes = [7, 9];
+    let view = Gray8View::new(&bytes, 1, 1, 2).unwrap();
+    assert_eq!((view.get(0, 0), view.try_get(0, 0), view.try_get(1, 0), view.row(0)), (7, Some(7), None, &bytes[..1]));
+    assert!(std::panic::catch_unwind(|| view.get(1, 0)).is_err());
+    assert!(std::panic::catch_unwind(|| view.row(1)).is_err());
+    let view = Gray8ViewMut::new(&mut bytes, 1, 1, 2).unwrap();
+    assert_eq!((view.get(0, 0), view.row(0)), (7, &[7][..]));
+    assert!(std::panic::catch_unwind(|| view.get(1, 0)).is_err());
+    assert!(std::panic::catch_unwind(|| view.row(1).len()).is_err());
+}
+
 /// A call on the row, into a destination of the given width; a refusal must leave the destination.
 fn call<T>(
     width: usize,

@@ -83,22 +83,47 @@ fn long_rises(side: usize) -> Vec<u8> {
     })
 }
 
+/// What stands by the name of a file that the program reads.
+enum File {
+    Missing,
+    Folder,
+    Bytes(Vec<u8>),
+}
+use File::{Bytes, Folder, Missing};
+
+impl File {
+    /// A missing file counts as empty; so does a folder, of which no byte can be read.
+    fn read(&self) -> &[u8] {
+        match self {
+            Missing | Folder => &[],
+            Bytes(bytes) => bytes,
+        }
+    }
+
+    fn write(&self, path: &Path) -> std::io::Result<()> {
+        match self {
+            Missing => Ok(()),
+            // git keeps no empty folder
+            Folder => std::fs::create_dir_all(path).and_then(|()| std::fs::write(path.join("kept"), "")),
+            Bytes(bytes) => std::fs::write(path, bytes),
+        }
+    }
+}
+
 struct Stored {
     name: &'static str,
-    job: Option<Vec<u8>>,
-    picture: Option<Vec<u8>>,
+    job: File,
+    picture: File,
     expected: Vec<u8>,
 }
 
-/// A missing file counts as empty.
-fn stored(name: &'static str, job: Option<Vec<u8>>, picture: Option<Vec<u8>>) -> Stored {
-    let expected = printed(job.as_deref().unwrap_or_default(), picture.as_deref().unwrap_or_default())
-        .expect("no tie of direction");
+fn stored(name: &'static str, job: File, picture: File) -> Stored {
+    let expected = printed(job.read(), picture.read()).expect("no tie of direction");
     Stored { name, job, picture, expected }
 }
 
 fn case(name: &'static str, job: Record, picture: Vec<u8>) -> Stored {
-    stored(name, Some(job.bytes()), Some(picture))
+    stored(name, Bytes(job.bytes()), Bytes(picture))
 }
 
 /// A case whose output begins so by document 01's own words.
@@ -107,9 +132,9 @@ fn stated(case: Stored, words: &[u8]) -> Stored {
     case
 }
 
-/// A record that is no job, or no record.
-fn no_job(name: &'static str, job: Vec<u8>) -> Stored {
-    stated(stored(name, Some(job), Some(ROW.to_vec())), b"refused 13\n")
+/// A file that is no job.
+fn no_job(name: &'static str, job: File) -> Stored {
+    stated(stored(name, job, Bytes(ROW.to_vec())), b"refused 13\n")
 }
 
 fn whole(width: u16, height: u16) -> Record {
@@ -153,50 +178,69 @@ fn filters() -> Vec<Stored> {
         case("whole-job-rows", whole(48, 48), smeared(48, true)),
         case("whole-job-columns", Record { border: 2, value: 128, q: 52429, ..whole(56, 56) }, smeared(56, false)),
         stated(case("whole-job-too-long", whole(40, 40), long_rises(40)), b"refused 12\n"),
-        case("picture-surplus", DOCUMENT, [&ROW[..], &[1, 2, 3]].concat()),
     ]
+}
+
+/// Each way in which the two files can be there or not. Of a job 33 bytes are asked for, of a picture 4,096.
+fn files() -> Vec<Stored> {
+    let job = || DOCUMENT.bytes();
+    let picture = |name, picture: File, words: &[u8]| stated(stored(name, Bytes(job()), picture), words);
+    let no_picture = |name, file| picture(name, file, b"refused 4\n");
+    let restored =
+        |name, surplus: usize| picture(name, Bytes([&ROW[..], &vec![77; surplus]].concat()), &[10, 0, 60, 0, 10]);
+    vec![
+        no_job("job-missing", Missing),
+        no_job("job-folder", Folder),
+        no_job("job-empty", Bytes(Vec::new())),
+        no_job("job-short", Bytes(job()[..31].to_vec())),
+        no_job("job-long-by-1", Bytes([job(), vec![0]].concat())),
+        no_job("job-longer-than-asked", Bytes(job().repeat(2))),
+        no_picture("picture-missing", Missing),
+        no_picture("picture-folder", Folder),
+        no_picture("picture-empty", Bytes(Vec::new())),
+        no_picture("picture-short", Bytes(ROW[..4].to_vec())),
+        restored("picture-long-by-1", 1),
+        restored("picture-longer-than-asked", 4096),
+        stated(stored("both-missing", Missing, Missing), b"refused 13\n"),
+        stated(stored("both-folders", Folder, Folder), b"refused 13\n"),
+    ]
+}
+
+/// Standard output that takes nothing, as the name says it to `crates/smear/cases/run`: nothing is written.
+fn outputs() -> Vec<Stored> {
+    let unwritten = |name| Stored { expected: Vec::new(), ..case(name, DOCUMENT, ROW.to_vec()) };
+    vec![unwritten("output-closed"), unwritten("output-full")]
 }
 
 fn refusals() -> Vec<Stored> {
     let huge = Record { width: 65, height: 64, length: 3, ..DOCUMENT };
-    let large = |name, job: Record, picture| stated(stored(name, Some(job.bytes()), picture), b"too large\n");
+    let large = |name, job: Record, picture| stated(stored(name, Bytes(job.bytes()), picture), b"too large\n");
+    let record = |name, job: Record| no_job(name, Bytes(job.bytes()));
     vec![
-        stated(case("picture-short", DOCUMENT, ROW[..4].to_vec()), b"refused 4\n"),
-        stated(case("picture-empty", DOCUMENT, Vec::new()), b"refused 4\n"),
-        stated(stored("picture-missing", Some(DOCUMENT.bytes()), None), b"refused 4\n"),
-        stated(stored("job-missing", None, Some(ROW.to_vec())), b"refused 13\n"),
-        stated(stored("both-missing", None, None), b"refused 13\n"),
-        large("too-large", huge, Some(mixed(64, 64))),
-        large("too-large-no-picture", Record { width: 1024, height: 1024, ..huge }, None),
-        no_job("record-short", DOCUMENT.bytes()[..31].to_vec()),
-        no_job("record-long", [DOCUMENT.bytes(), vec![0]].concat()),
-        no_job("record-empty", Vec::new()),
-        no_job("record-result", Record { direction: 2, angle: 1.5, ..DOCUMENT }.bytes()),
-        no_job("record-estimate", Record { estimate: 2.5, ..DOCUMENT }.bytes()),
-        no_job("record-width-0", Record { width: 0, ..DOCUMENT }.bytes()),
-        no_job("record-height-1025", Record { height: 1025, ..DOCUMENT }.bytes()),
-        no_job("record-length-13", Record { length: 13, ..DOCUMENT }.bytes()),
-        no_job("record-23-iterations", Record { iterations: 23, ..DOCUMENT }.bytes()),
-        no_job("record-q-65537", Record { q: 65537, ..DOCUMENT }.bytes()),
-        no_job("record-angle-infinite", Record { angle: f64::INFINITY, ..DOCUMENT }.bytes()),
-        no_job("record-filter-4", Record { filter: 4, ..DOCUMENT }.bytes()),
-        no_job("record-whole-job-angle", Record { angle: 0.75, ..whole(5, 1) }.bytes()),
+        large("too-large", huge, Bytes(mixed(64, 64))),
+        large("too-large-no-picture", Record { width: 1024, height: 1024, ..huge }, Missing),
+        record("record-result", Record { direction: 2, angle: 1.5, ..DOCUMENT }),
+        record("record-estimate", Record { estimate: 2.5, ..DOCUMENT }),
+        record("record-width-0", Record { width: 0, ..DOCUMENT }),
+        record("record-height-1025", Record { height: 1025, ..DOCUMENT }),
+        record("record-length-13", Record { length: 13, ..DOCUMENT }),
+        record("record-23-iterations", Record { iterations: 23, ..DOCUMENT }),
+        record("record-q-65537", Record { q: 65537, ..DOCUMENT }),
+        record("record-angle-infinite", Record { angle: f64::INFINITY, ..DOCUMENT }),
+        record("record-filter-4", Record { filter: 4, ..DOCUMENT }),
+        record("record-whole-job-angle", Record { angle: 0.75, ..whole(5, 1) }),
     ]
 }
 
 /// Writes a folder for each case: job.rec and picture.raw, unless they are missing, and expected.
 pub fn write(dir: &str) {
-    let cases: Vec<Stored> = [document(), filters(), refusals()].into_iter().flatten().collect();
+    let cases: Vec<Stored> = [document(), filters(), files(), outputs(), refusals()].into_iter().flatten().collect();
     println!("{} cases of the program written to {dir}", cases.len());
     for case in cases {
         let own = Path::new(dir).join(case.name);
         std::fs::create_dir_all(&own).expect("a case has a folder");
-        for (file, bytes) in
-            [("job.rec", &case.job), ("picture.raw", &case.picture), ("expected", &Some(case.expected))]
-        {
-            if let Some(bytes) = bytes {
-                std::fs::write(own.join(file), bytes).expect("a case can be written");
-            }
+        for (name, file) in [("job.rec", case.job), ("picture.raw", case.picture), ("expected", Bytes(case.expected))] {
+            file.write(&own.join(name)).expect("a case can be written");
         }
     }
 }

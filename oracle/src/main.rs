@@ -1,10 +1,12 @@
 //! Compares the proved library with the Rust original: the same inputs, from a seeded generator, through the C
-//! interface. Ends with status 1 at the first difference, which it prints as small as it can make it.
+//! interface. Ends with status 1 at the first difference, which it prints as small as it can make it; intended ones are
+//! shown first (`differences`).
 
 mod angle;
 mod binomial;
 mod case;
 mod cases;
+mod differences;
 mod direction;
 #[path = "../../bindings/src/raw.rs"]
 mod ffi;
@@ -69,6 +71,9 @@ fn main() {
     // a name that is mistyped would compare nothing
     if !CALLS.iter().any(|(name, _)| name.starts_with(&only)) {
         usage();
+    }
+    if only.is_empty() {
+        differences::check();
     }
     let mut all = Tally::new("all but from_angle");
     println!("{:<28} {:>10} {:>10} {:>10}", "call", "alike", "refused", "left out");

@@ -69,7 +69,9 @@ pub fn restored(p: &Picture, dst: &Picture, s: &Settings, workspace: &mut deblur
         relaxation: s.factor,
         border: border(s),
     };
-    written(dst, |out| Ok(format!("{:?}", deblur::van_cittert_line_into(view(p), out, &config, workspace)?)))
+    let answer =
+        written(dst, |out| Ok(format!("{:?}", deblur::van_cittert_line_into(view(p), out, &config, workspace)?)));
+    format!("{answer} {:?}", config.raster_direction())
 }
 
 pub fn unsharpened(p: &Picture, dst: &Picture, s: &Settings, workspace: &mut deblur::DeblurWorkspace) -> String {

@@ -1,5 +1,7 @@
 -- The laws of `blur`, by subject.
 pub mod Above
+pub mod Conditions
+pub mod Determined
 pub mod ScanPlans
 pub mod Estimate
 pub mod Keys

@@ -1,4 +1,5 @@
--- What the contracts of `blur` cite.
+-- What the contracts of `blur` cite, and statements about them.
 pub mod Length
+pub mod Conditions
 pub mod Median
 pub mod Select

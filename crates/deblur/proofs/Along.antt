@@ -16,7 +16,6 @@ use Rattle.image.specs.Picture.{pixel}
 use Rattle.image.specs.Refusal.{maxSide}
 use Rattle.floats.specs.Factor.{maxRelaxation, maxGain, within}
 use Rattle.floats.proofs.Factor.{within-more, rounded-le}
-use Rattle.raster.specs.Border.{borderValue}
 use Rattle.raster.specs.declared.border.LineBorderMode.{LineBorderMode}
 use Rattle.raster.specs.declared.direction.RasterDirection4.{RasterDirection4}
 use Rattle.line.specs.declared.kernel.LineKernel.{LineKernel}
@@ -64,13 +63,13 @@ module _ {len width height stride : ℕ} {kernel : LineKernel} {scratchLen : ℕ
 
 pub along-painted : {A : Type 0} {z : A} {old new : List A} (g : ℤ → A) (src : List ℕ) (w h stride dstStride : ℕ)
     (d : RasterDirection4)
-    (kernel : LineKernel) → borderValue (kernel .border) ≤ 255
+    (kernel : LineKernel)
     → Painted z (λ c r. g (kernelEstimate src w h (rowStride w h stride) d kernel c r)) w h dstStride old new
     → Painted z (λ c r. g (kernelEstimate src w h stride d kernel c r)) w h dstStride old new
-along-painted g src w h stride dstStride d kernel byte P =
+along-painted g src w h stride dstStride d kernel P =
     painted-same (λ c r. g (kernelEstimate src w h (rowStride w h stride) d kernel c r)) w h dstStride P
     (λ c r. g (kernelEstimate src w h stride d kernel c r)) λ c r hc hr.
     ap g
     (estimate-same (pixel src (rowStride w h stride)) (pixel src stride) d w h (kernel .border) (kernel .«blur_length»)
     (kernel .q)
-    (kernel .iterations) c r byte (λ x y _ hy. pixel-same src w h stride x y hy) hc hr)
+    (kernel .iterations) c r (λ x y _ hy. pixel-same src w h stride x y hy) hc hr)

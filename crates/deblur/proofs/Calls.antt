@@ -36,21 +36,24 @@ module _ (config : VanCittertConfig) where
   pub restoration-sound : Sound (restorationOf config)
   restoration-sound width height mw mh e =
       let t = restoration-taken width height config e in
-      restoration-kernel (t .0) mw mh (config .relaxation) (config .border) (t .1) (t .2)
+      restoration-kernel (t .length-taken) mw mh (config .relaxation) (config .border) (t .relaxation-taken)
+      (t .iterations-taken)
 
   pub relaxation-small : (width height : ℕ) → restorationOf config .refusal width height ≡ 0
       → T (within 255 (config .relaxation))
   relaxation-small width height e =
-      factor-small maxRelaxation (config .relaxation) (omega arith) (restoration-taken width height config e .1)
+      factor-small maxRelaxation (config .relaxation) (omega arith)
+      (restoration-taken width height config e .relaxation-taken)
 
 module _ (config : DirectionalUnsharpConfig) where
   pub unsharp-sound : Sound (unsharpOf config)
   unsharp-sound width height mw mh e =
       let t = unsharp-taken width height config e in
-      unsharp-kernel (t .0) mw mh (config .gain) (config .border) (t .1)
+      unsharp-kernel (t .length-taken) mw mh (config .gain) (config .border) (t .gain-taken)
 
   pub gain-small : (width height : ℕ) → unsharpOf config .refusal width height ≡ 0 → T (within 255 (config .gain))
-  gain-small width height e = factor-small maxGain (config .gain) (omega arith) (unsharp-taken width height config e .1)
+  gain-small width height e =
+      factor-small maxGain (config .gain) (omega arith) (unsharp-taken width height config e .gain-taken)
 
 -- ---- a call along lines
 

@@ -12,7 +12,7 @@ use Rattle.image.specs.Picture.{pixel}
 use Rattle.raster.specs.Border.{borderMap}
 use Rattle.raster.specs.Lines.{startCol, startRow, lineOf}
 use Rattle.raster.specs.declared.border.LineBorderMode.the-variants.{Replicate, Constant}
-use Rattle.raster.specs.declared.direction.RasterDirection4.the-variants.{Horizontal, DownLeft}
+use Rattle.raster.specs.declared.direction.RasterDirection4.the-variants.{Horizontal, DownRight, DownLeft}
 use Rattle.line.specs.Iteration.{mean, stepped, after}
 use Rattle.line.specs.Line.{sample, window}
 use Rattle.deblur.specs.declared.DirectionalUnsharpConfig.{DirectionalUnsharpConfig}
@@ -56,6 +56,15 @@ square = 1 ∷ 2 ∷ 3 ∷ 4 ∷ []
 diagonal : estimate (pixel square 2) DownLeft 2 2 (Constant 9) 3 65536 1 0 1 ≡ pos 2
 unfolding estimate estimateOn after stepped mean window sample borderMap total square startCol startRow lineOf
 diagonal = refl
+
+-- 0 30 0 over 0 0 0, along the diagonal from (1, 0), whose start is repeated: 30 + (30 − (30 + 30 + 0) / 3). "Clamping
+-- column and row separately" would take (0, 0) before the start, and give 50.
+corner : List ℕ
+corner = 0 ∷ 30 ∷ 0 ∷ 0 ∷ 0 ∷ 0 ∷ []
+
+diagonal-start : estimate (pixel corner 3) DownRight 3 2 Replicate 3 65536 1 1 0 ≡ pos 40
+unfolding estimate estimateOn after stepped mean window sample borderMap total corner startCol startRow lineOf
+diagonal-start = refl
 
 -- ---- "Refusals"
 

@@ -1,9 +1,12 @@
 -- The laws of `deblur`, by subject.
 pub mod Along
 pub mod Calls
+pub mod Conditions
+pub mod Determined
 pub mod Examples
 pub mod LineByLine
 pub mod PictureLaws
 pub mod Refusals
 pub mod RowStride
+pub mod Same
 pub mod Scattering

@@ -13,16 +13,14 @@ use Rattle.numbers.proofs.Nat.{le-mul-of-pos-left}
 use Rattle.numbers.proofs.Written.{written-none, written-same}
 use Rattle.image.specs.Refusal.{Laid}
 use Rattle.image.specs.Picture.{pixel}
-use Rattle.raster.specs.Border.{borderValue}
 use Rattle.raster.specs.Lines.{Sides, lineCount, lineLength, scanLineAt, byteOf, placeStep}
 use Rattle.raster.specs.declared.direction.RasterDirection4.{RasterDirection4}
 use Rattle.raster.specs.declared.lines.ScanLine.{ScanLine}
-use Rattle.raster.proofs.BorderMap.{border-lawful}
 use Rattle.raster.proofs.Place.{line-in}
 use Rattle.raster.proofs.Scatter.{startByte, linesBelow, step-or-one, line-byte-lt, lines-none, lines-whole}
 use Rattle.line.specs.declared.kernel.LineKernel.{LineKernel}
 use Rattle.line.specs.Kernel.{LineAsked, LineRestored, bytesOn, lineAt as estimateAt}
-use Rattle.line.proofs.LineWindow.{after-same}
+use Rattle.line.proofs.LineWindow.{border-of-line, after-same}
 use Rattle.deblur.specs.Scatter.{ScatterAsked, Scattered}
 use Rattle.deblur.specs.Lines.{kernelOn, kernelEstimate, SourceAsked, LinesAsked, ScanLineRestored}
 use Rattle.deblur.specs.Picture.{samples}
@@ -89,16 +87,16 @@ module _ {len w h stride : ℕ} (l : Laid len w h stride) where
                 (l .stride-least);
           })
 
-      pub line-estimates : (src : List ℕ) (kernel : LineKernel) (scratch : List ℤ) → borderValue (kernel .border) ≤ 255
+      pub line-estimates : (src : List ℕ) (kernel : LineKernel) (scratch : List ℤ)
           → LineRestored src (byteOf stride (line .col) (line .row)) s (line .len) kernel scratch
           → (p : ℕ) → p < n → estimateAt n scratch p ≡ kernelOn src w h stride d kernel k p
-      line-estimates src kernel scratch byte R p b =
+      line-estimates src kernel scratch R p b =
           let some = line-in d w h k (l .width-pos) (l .height-pos) below .some in
           let wide = l .stride-least in
           let px = pixel src stride in
           let R′ : LineRestored src start step n kernel scratch = rw (e, f) at R in
           R′ p b
-          ∙ after-same (border-lawful (kernel .border) n some byte) (bytesOn src start step) (samples px d w k)
+          ∙ after-same (border-of-line (kernel .border) n some) (bytesOn src start step) (samples px d w k)
           (λ i hi. sym (samples-byte src d w h stride k i (omega (arith, l .width-pos)) hi)) (kernel .q)
           (kernel .«blur_length») (kernel .iterations) p b
           ∙ sym (estimate-on px d w h (kernel .border) (kernel .«blur_length») (kernel .q) (kernel .iterations) k p)

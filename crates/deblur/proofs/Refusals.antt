@@ -23,7 +23,7 @@ use Rattle.deblur.specs.Refusal.{blurLengthRefusal, angleRefusal, factor
 use Rattle.deblur.specs.Refusal.{iteratedRefusal, scratchNeeded}
 use Rattle.deblur.specs.Refusal.{lineRefusal, restorationRefusal, unsharpRefusal, scratchShort, lentRefusal}
 use Rattle.deblur.specs.Refusal.{inOrder, filterRefusal, estimateRefusal, LengthTaken, IterationsTaken}
-use Rattle.deblur.specs.Refusal.{FilterAccepted, EstimateAccepted}
+use Rattle.deblur.specs.Refusal.{RestorationTaken, UnsharpTaken, FilterAccepted, EstimateAccepted}
 
 -- ---- 7, the blur length
 
@@ -79,6 +79,10 @@ module _ (angle : Float) where
   pub angle-0 : finite angle ≡ true → angleRefusal angle ≡ 0
   unfolding angleRefusal
   angle-0 = unless-holds 7 (zero-lt-suc 6) (finite angle)
+
+  pub angle-taken : angleRefusal angle ≡ 0 → finite angle ≡ true
+  unfolding angleRefusal
+  angle-taken = unless-zero 7 (zero-lt-suc 6) (finite angle)
 
 module _ (limit : ℕ) (factor : Float) where
   pub factor-8 : within limit factor ≡ false → factorRefusal limit factor ≡ 8
@@ -144,25 +148,29 @@ module _ (width height : ℕ) where
 
   -- settings whose first refusal is the lines'
   line-taken : (L : ℕ) (angle : Float) (next : ℕ) → firstRefusal (lineRefusal width height L angle) next ≡ 0
-      → LengthTaken width height L × (next ≡ 0)
+      → LengthTaken width height L × (finite angle ≡ true) × (next ≡ 0)
   line-taken L angle next e =
       let a = first-zero (lineRefusal width height L angle) next e in
       let b = first-zero (blurLengthRefusal width height L) (angleRefusal angle) (a .0) in
-      (length-taken width height L (b .0), a .1)
+      (length-taken width height L (b .0), angle-taken angle (b .1), a .1)
 
   pub restoration-taken : (config : VanCittertConfig) → restorationRefusal width height config ≡ 0
-      → LengthTaken width height (config .«blur_length») × (within maxRelaxation (config .relaxation) ≡ true)
-      × IterationsTaken (config .iterations)
+      → RestorationTaken width height config
   restoration-taken config e =
       let a = line-taken (config .«blur_length») (config .«theta_radians») _ e in
-      let b = iterated-taken (config .relaxation) (config .iterations) (a .1) in
-      (a .0, b .0, b .1)
+      let b = iterated-taken (config .relaxation) (config .iterations) (a .2) in
+      record {
+        length-taken = a .0;
+        angle-finite = a .1;
+        relaxation-taken = b .0;
+        iterations-taken = b .1;
+      }
 
   pub unsharp-taken : (config : DirectionalUnsharpConfig) → unsharpRefusal width height config ≡ 0
-      → LengthTaken width height (config .«blur_length») × (within maxGain (config .gain) ≡ true)
+      → UnsharpTaken width height config
   unsharp-taken config e =
       let a = line-taken (config .«blur_length») (config .«theta_radians») _ e in
-      (a .0, factor-taken maxGain (config .gain) (a .1))
+      record { length-taken = a .0; angle-finite = a .1; gain-taken = factor-taken maxGain (config .gain) (a .2) }
 
 -- ---- the order of the numbers
 

@@ -19,13 +19,11 @@ use Rattle.numbers.proofs.Test.{by-test, bool-ext}
 use Rattle.numbers.proofs.Written.{written-same}
 use Rattle.image.specs.Picture.{pixel}
 use Rattle.image.specs.Refusal.{Laid}
-use Rattle.raster.specs.Border.{borderValue}
 use Rattle.raster.specs.Lines.{lineLength, lineOf, placeOf}
 use Rattle.raster.specs.declared.border.LineBorderMode.{LineBorderMode}
 use Rattle.raster.specs.declared.direction.RasterDirection4.{RasterDirection4}
-use Rattle.raster.proofs.BorderMap.{border-lawful}
 use Rattle.raster.proofs.Place.{one-line}
-use Rattle.line.proofs.LineWindow.{after-same}
+use Rattle.line.proofs.LineWindow.{border-of-line, after-same}
 use Rattle.deblur.specs.Lines.{rowStride, WalkAsked}
 use Rattle.deblur.specs.Picture.{samples, estimate}
 use Rattle.deblur.proofs.PictureLaws.{estimate-is, estimate-on}
@@ -76,9 +74,9 @@ pixel-same src w h s c r b =
 
 -- pictures that are equal at their pixels have equal estimates there
 pub estimate-same : (px px′ : ℕ → ℕ → ℕ) (d : RasterDirection4) (w h : ℕ) (border : LineBorderMode) (L q n c r : ℕ)
-    → borderValue border ≤ 255 → ((x y : ℕ) → x < w → y < h → px x y ≡ px′ x y) → c < w → r < h
+    → ((x y : ℕ) → x < w → y < h → px x y ≡ px′ x y) → c < w → r < h
     → estimate px d w h border L q n c r ≡ estimate px′ d w h border L q n c r
-estimate-same px px′ d w h border L q n c r byte e hc hr =
+estimate-same px px′ d w h border L q n c r e hc hr =
     let k = lineOf d w c r in
     let p = placeOf d w c r in
     let one = one-line d w h (omega arith) in
@@ -86,7 +84,7 @@ estimate-same px px′ d w h border L q n c r byte e hc hr =
     let b = o .place in
     estimate-is px d w h border L q n c r
     ∙ estimate-on px d w h border L q n k p
-    ∙ after-same (border-lawful border (lineLength d w h k) (omega arith) byte) (samples px d w k) (samples px′ d w k)
+    ∙ after-same (border-of-line border (lineLength d w h k) (omega arith)) (samples px d w k) (samples px′ d w k)
     (λ i hi. let a = one .of-place k i (o .line) hi in ap pos (e _ _ (a .col) (a .row))) q L n p b
     ∙ sym (estimate-on px′ d w h border L q n k p)
     ∙ sym (estimate-is px′ d w h border L q n c r)

@@ -1,7 +1,7 @@
 -- Document 01, "Refusals, first match wins", for the line filters: a test for each number, which is 0 where nothing is
 -- refused, and the tests in the document's order.
 use Prim.Native.Nat.{ℕ, _*_, _%_, _≤_}
-use mathlib.Core.Bool.{Bool, not, cond, _||_}
+use mathlib.Core.Bool.{Bool, true, not, cond, _||_}
 use mathlib.Core.Path.{_≡_}
 use lib.Dec.{eqb, ltb}
 use lib.Ieee.{Float}
@@ -93,6 +93,19 @@ pub record LengthTaken (width height L : ℕ) : Type 0 where
 pub record IterationsTaken (iterations : ℕ) : Type 0 where
   pub least : 1 ≤ iterations
   pub most : iterations ≤ maxIterations
+
+-- `restorationRefusal` is 0 exactly there.
+pub record RestorationTaken (width height : ℕ) (config : VanCittertConfig) : Type 0 where
+  pub length-taken : LengthTaken width height (config .«blur_length»)
+  pub angle-finite : finite (config .«theta_radians») ≡ true
+  pub relaxation-taken : within maxRelaxation (config .relaxation) ≡ true
+  pub iterations-taken : IterationsTaken (config .iterations)
+
+-- `unsharpRefusal` is 0 exactly there.
+pub record UnsharpTaken (width height : ℕ) (config : DirectionalUnsharpConfig) : Type 0 where
+  pub length-taken : LengthTaken width height (config .«blur_length»)
+  pub angle-finite : finite (config .«theta_radians») ≡ true
+  pub gain-taken : within maxGain (config .gain) ≡ true
 
 -- An accepted restoration or line unsharp: `filterRefusal` is 0 exactly there.
 pub record FilterAccepted (len width height stride dstLen dstWidth dstHeight dstStride settings scratchLen : ℕ) : Type 0

@@ -1,6 +1,7 @@
 // Restoration along lines, and line unsharp: the settings, the answers and the calls.
 ghost use mathlib.Core.Path.{_≡_};
 ghost use Rattle.image.specs.Call.{gray8};
+ghost use Rattle.raster.specs.Direction.{fromAngle};
 ghost use Rattle.deblur.specs.Calls.{Filtered, EstimateWritten};
 ghost use Rattle.deblur.specs.Settings.{vanCittertDefault, unsharpDefault, restorationOf, unsharpOf};
 use crate::kernel::estimates_along;
@@ -77,6 +78,13 @@ impl VanCittertConfig {
             border: LineBorderMode::Replicate,
         }
     }
+
+    // The direction that the lines take.
+    pub fn raster_direction(self) -> RasterDirection4
+        ensures { λ d. ⌜ d ≡ fromAngle (self .«theta_radians») ⌝ }
+    {
+        RasterDirection4::from_angle(self.theta_radians)
+    }
 }
 
 impl DirectionalUnsharpConfig {
@@ -128,7 +136,7 @@ pub fn van_cittert_line_into(
     if refusal != 0 {
         return RestorationAnswer::Refused(refusal);
     }
-    let direction = RasterDirection4::from_angle(config.theta_radians);
+    let direction = config.raster_direction();
     let border = config.border;
     let kernel = line_kernel(
         config.blur_length,
@@ -178,7 +186,7 @@ pub fn van_cittert_estimate_into(
     if refusal != 0 {
         return RestorationAnswer::Refused(refusal);
     }
-    let direction = RasterDirection4::from_angle(config.theta_radians);
+    let direction = config.raster_direction();
     let border = config.border;
     let kernel = line_kernel(
         config.blur_length,

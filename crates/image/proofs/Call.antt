@@ -6,11 +6,16 @@ use native.Mathlib.Omega.{arith}
 use mathlib.Core.Path.{_≡_, refl, sym, ap, _∙_}
 use Rattle.image.specs.Call.{Decision, accepts, refuses, unless, decided, numberOf, Outcome, withOuts, outsOnly}
 use Rattle.image.specs.Call.{Returns}
+use Rattle.image.specs.Refusal.{firstRefusal}
 
 module _ {R : Type 0} where
   pub unless-refuses : (n : ℕ) (next : Decision R) → (n ≡ 0 → ⊥) → unless n next ≡ refuses n
   unless-refuses zero next h = absurd (h refl)
   unless-refuses (suc n) next h = refl
+
+  -- where a call refuses, nothing else that it could decide counts: the bytes of a refused source are not read
+  pub refused-same : (n : ℕ) (next next′ : Decision R) → (n ≡ 0 → ⊥) → unless n next ≡ unless n next′
+  refused-same n next next′ h = unless-refuses n next h ∙ sym (unless-refuses n next′ h)
 
   pub decided-refuses : (n : ℕ) (found : R) → (n ≡ 0 → ⊥) → decided n found ≡ refuses n
   decided-refuses n found = unless-refuses n (accepts found)
@@ -29,6 +34,10 @@ module _ {R : Type 0} where
 
   pub decided-accepts : (n : ℕ) (found found′ : R) → decided n found ≡ accepts found′ → (n ≡ 0) × (found ≡ found′)
   decided-accepts n found found′ e = let a = unless-accepts n (accepts found) found′ e in (a .0, cc)
+
+  pub number-unless : (n : ℕ) (next : Decision R) → numberOf (unless n next) ≡ firstRefusal n (numberOf next)
+  number-unless zero next = refl
+  number-unless (suc n) next = refl
 
   pub number-decided : (n : ℕ) (found : R) → numberOf (decided n found) ≡ n
   number-decided zero found = refl

@@ -90,3 +90,12 @@ second-row = refl
 no-row : rowOf bytes 3 2 4 2 ≡ []
 unfolding bytes rowOf layoutRefusal
 no-row = refl
+
+-- the smallest view with a byte beside its pixel, which the Rust reads (docs/DIFFERENCES.md)
+smallest-outside : pixelOf (7 ∷ 9 ∷ []) 1 1 2 1 0 ≡ Outside
+unfolding pixelOf layoutRefusal
+smallest-outside = refl
+
+smallest-no-row : rowOf (7 ∷ 9 ∷ []) 1 1 2 1 ≡ []
+unfolding rowOf layoutRefusal
+smallest-no-row = refl

@@ -1,7 +1,10 @@
 -- The laws of `image`.
 pub mod Call
 pub mod Chain
+pub mod Conditions
+pub mod Determined
 pub mod Refusal
+pub mod Same
 pub mod Pair
 pub mod Picture
 pub mod ViewParameters

@@ -2,7 +2,9 @@
 use Prim.Native.Nat.{ℕ}
 use mathlib.Core.Path.{_≡_}
 use mathlib.Core.List.{List}
-use denote.Ref.{RefT}
+use denote.Ref.{RefT, now}
+use Rattle.image.specs.Picture.{pixelOf}
+use Rattle.image.specs.declared.Pixel.{Pixel}
 use Rattle.image.specs.declared.view.Gray8View.{Gray8View}
 use Rattle.image.specs.declared.view.Gray8ViewMut.{Gray8ViewMut}
 
@@ -14,7 +16,14 @@ viewOf bytes width height stride = record { «data» = bytes; width = width; hei
 abbrev pub viewMutOf : RefT (List ℕ) → ℕ → ℕ → ℕ → Gray8ViewMut
 viewMutOf bytes width height stride = record { «data» = bytes; width = width; height = height; stride = stride }
 
--- A method that only reads a `Gray8ViewMut`: its answer is the number, and the bytes stay as they were.
-pub record OnlyReads (before after : List ℕ) (answer number : ℕ) : Type 0 where
-  pub answered : answer ≡ number
+-- The pixel in column x and row y of a view, as of its bytes.
+abbrev pub pixelOfView : Gray8View → ℕ → ℕ → Pixel
+pixelOfView v x y = pixelOf (now (v .«data»)) (v .width) (v .height) (v .stride) x y
+
+abbrev pub pixelOfViewMut : Gray8ViewMut → ℕ → ℕ → Pixel
+pixelOfViewMut v x y = pixelOf (now (v .«data»)) (v .width) (v .height) (v .stride) x y
+
+-- A call that only reads bytes that it could write: it answers what is asked for, and they stay as they were.
+pub record OnlyReads {A : Type 0} (before after : List ℕ) (answer asked : A) : Type 0 where
+  pub answered : answer ≡ asked
   pub bytes-stay : after ≡ before

@@ -2,6 +2,7 @@
 ghost use mathlib.Core.Path.{_≡_};
 ghost use Rattle.image.specs.Refusal.{sidesRefusal, layoutRefusal, pairRefusal};
 ghost use Rattle.image.specs.Picture.{pixelOf, rowOf};
+ghost use Rattle.image.specs.View.{OnlyReads};
 
 pub mod view;
 
@@ -101,4 +102,19 @@ pub fn row_of(data: &[u8], width: usize, height: usize, stride: usize, row: usiz
     let start = row * stride;
     let end = start + width;
     &data[start..end]
+}
+
+// The same pixel of bytes that can be written, and stay as they were.
+pub fn pixel_in(
+    data: &mut [u8],
+    width: usize,
+    height: usize,
+    stride: usize,
+    c: usize,
+    r: usize,
+) -> Pixel
+    ensures { λ p. ⌜ OnlyReads (now («data» .entry)) (now («data» .exit)) p
+        (pixelOf (now («data» .entry)) width height stride c r) ⌝ }
+{
+    pixel_of(data, width, height, stride, c, r)
 }

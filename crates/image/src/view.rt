@@ -4,7 +4,7 @@ ghost use mathlib.Core.Path.{_≡_};
 ghost use lib.ListN.{length};
 ghost use Rattle.image.specs.Refusal.{layoutRefusal};
 ghost use Rattle.image.specs.Picture.{pixelOf, rowOf};
-ghost use Rattle.image.specs.View.{viewOf, viewMutOf, OnlyReads};
+ghost use Rattle.image.specs.View.{viewOf, viewMutOf, pixelOfView, pixelOfViewMut, OnlyReads};
 use crate::Pixel;
 
 // A picture to be read.
@@ -60,6 +60,13 @@ impl<'a> Gray8View<'a> {
         crate::pixel_of(self.data, self.width, self.height, self.stride, x, y)
     }
 
+    // The same as `get`, which has no byte to answer outside: the Rust has both names.
+    pub fn try_get(self, x: usize, y: usize) -> Pixel
+        ensures { λ p. ⌜ p ≡ pixelOfView (self .entry) x y ⌝ }
+    {
+        crate::pixel_of(self.data, self.width, self.height, self.stride, x, y)
+    }
+
     pub fn width(self) -> usize
         ensures { λ n. ⌜ n ≡ self .entry .width ⌝ }
     {
@@ -98,6 +105,13 @@ impl<'a> Gray8ViewMut<'a> {
             (self .entry .stride)) ⌝ }
     {
         crate::layout_refusal(self.data.len(), self.width, self.height, self.stride)
+    }
+
+    pub fn get(self, x: usize, y: usize) -> Pixel
+        ensures { λ p. ⌜ OnlyReads (now (self .entry .«data»)) (now (self .exit .0)) p
+            (pixelOfViewMut (self .entry) x y) ⌝ }
+    {
+        crate::pixel_in(self.data, self.width, self.height, self.stride, x, y)
     }
 
     pub fn width(self) -> usize

@@ -23,7 +23,7 @@ use Rattle.image.proofs.Pair.{destination-laid}
 use Rattle.image.proofs.Refusal.{place-within}
 use Rattle.line.specs.Near.{Near, cut}
 use Rattle.deblur.specs.Calls.{restorationAnswer, lastEstimate, estimateNumber}
-use Rattle.deblur.specs.Refusal.{LengthTaken}
+use Rattle.deblur.specs.Refusal.{scratchNeeded, LengthTaken}
 use Rattle.deblur.specs.declared.RestorationMetadata.{RestorationMetadata}
 use Rattle.deblur.specs.declared.RestorationAnswer.the-variants as restoration
 use Rattle.deblur.proofs.Refusals.{estimate-accepted, accepted-estimate}
@@ -100,8 +100,20 @@ module _ (j : Job) (result : JobResult) (done : plan j ≡ accepts result) where
   some : 0 < result .«blur_length»
   some = let h = long .least in omega arith
 
+  -- the estimate call is accepted wherever enough is lent
+  pub call-accepted : (k estimatesLen scratchLen : ℕ) → 1 ≤ k → k ≤ last → w * h ≤ estimatesLen
+      → scratchNeeded w h ≤ scratchLen
+      → estimateNumber (j .source) estimatesLen (estimateFilter (j .config) result k) scratchLen ≡ 0
+  call-accepted k estimatesLen scratchLen least most room scratch =
+      accepted-estimate _ _ _ _ _ _ _ (record {
+        picture = taken .runnable .pictures .source;
+        settings-taken = estimate-taken (j .config) result k (taken .runnable) long least most;
+        dst-least = room;
+        scratch-least = scratch;
+      })
+
   -- what an accepted estimate call wrote at a pixel is the working run's estimate there
-  estimates-are : (k : ℕ) (estimates : List ℤ) → EstimateCall j result k estimates → (c r : ℕ) → c < w → r < h
+  pub estimates-are : (k : ℕ) (estimates : List ℤ) → EstimateCall j result k estimates → (c r : ℕ) → c < w → r < h
       → estimateAt j estimates c r ≡ jobEstimate (j .source) (j .config) result k c r
   estimates-are k estimates call c r hc hr =
       let f = estimateFilter (j .config) result k in
@@ -131,13 +143,7 @@ module _ (j : Job) (result : JobResult) (done : plan j ≡ accepts result) where
           exact-accepts = ap jobAnswer done;
           same-direction = refl;
           same-length = refl;
-          estimate-accepted = λ k estimatesLen scratchLen least most room scratch.
-              accepted-estimate _ _ _ _ _ _ _ (record {
-                picture = taken .runnable .pictures .source;
-                settings-taken = estimate-taken (j .config) result k (taken .runnable) long least most;
-                dst-least = room;
-                scratch-least = scratch;
-              });
+          estimate-accepted = call-accepted;
           estimates-near = λ k least most estimates call c r hc hr.
               subst (λ (y : ℤ). Near q k y (exactAfter j result k c r)) (sym (estimates-are k estimates call c r hc hr))
               (pixel-near (pixel (j .source .bytes) (j .source .stride)) (result .direction) w h (j .config .border)

@@ -2,8 +2,7 @@
 -- 38,654,705,664.
 use mathlib.Core.Path.{_≡_, refl}
 use mathlib.Core.List.{List, [], _∷_, map}
-use Prim.Native.Nat.{ℕ, _-_, _*_, _^_, _<_}
-use native.Mathlib.Omega.{arith}
+use Prim.Native.Nat.{ℕ, _-_, _*_, _^_}
 use lib.IntN.{ℤ, pos, negsuc, natAbs, _-ℤ_, _*ℤ_}
 use Rattle.numbers.specs.Sum.{total}
 use Rattle.image.specs.Picture.{pixel}
@@ -15,9 +14,9 @@ use Rattle.line.specs.Iteration.{mean, stepped, after}
 use Rattle.line.specs.Line.{sample, window}
 use Rattle.line.specs.Exact.{scaleOf, exact}
 use Rattle.line.specs.ExactLine.{exactWindow}
-use Rattle.line.specs.Near.{LessFrom, bound, cutNumerator}
+use Rattle.line.specs.Near.{cutNumerator}
 use Rattle.deblur.specs.Picture.{estimate, estimateOn}
-use Rattle.job.specs.Exact.{exactEstimate, exactValue}
+use Rattle.job.specs.Exact.{exactEstimate}
 
 -- row 10 10 40 10 10, L = 3, Replicate, Horizontal: its exact numerators after k iterations with q
 row : List ℕ
@@ -60,12 +59,6 @@ distances : map (distance row 5 65536 2) (0 ∷ 1 ∷ 2 ∷ 3 ∷ 4 ∷ []) ≡ 
 unfolding distance estimate estimateOn after stepped mean window sample exactEstimate exact exactWindow borderMap total
     row startCol startRow lineOf
 distances = refl
-
--- a plain copy, which has 40 where the exact value after one iteration is 60, is further off than demand 3 allows at k
--- = 1
-copy-too-far : LessFrom (bound 1) (pos 40) (exactValue (pixel row 5) Horizontal 5 1 Replicate 3 65536 1 2 0) → ⊥
-unfolding exactEstimate exact exactWindow borderMap total row startCol startRow lineOf
-copy-too-far h = let less : 3932160 < 393216 = h in omega arith
 
 -- a distance between 2^2 − 3 and 2^2 − 2 after one iteration: 0 17 1 with q = 65,535, at its start, 327,663 / S
 further : distance (0 ∷ 17 ∷ 1 ∷ []) 3 65535 1 0 ≡ 327663

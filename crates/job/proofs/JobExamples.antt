@@ -1,6 +1,6 @@
 -- Plans of small pictures. Document 01's ramp (three equal rows, "Length") has the direction Vertical, along which
 -- nothing changes: refusal 11. A picture whose columns are such ramps and whose rows differ more has the direction
--- Vertical too, the estimate 5.0 and the blur length 5.
+-- Vertical too, the estimate 5.0 and the blur length 5, and so has its inverse.
 use mathlib.Core.List.{List, [], _∷_, _++_}
 use mathlib.Core.Path.{_≡_, refl}
 use Prim.Native.Nat.{ℕ}
@@ -19,6 +19,7 @@ use Rattle.swings.specs.Rise.{levelOf, crossedAt, placeAt, crossingOf, riseBetw
 use Rattle.swings.specs.Runs.{runsFrom, runsAfter}
 use Rattle.swings.specs.Swings.{swingsOf, lineSwings, swingsFrom}
 use Rattle.tensor.specs.Tensor.{gradientX, gradientY, rowSum, interiorSum, tensorSums, tensorDirection, estimateOf}
+use Rattle.job.specs.declared.JobResult.{JobResult}
 use Rattle.job.specs.Job.{layout, Job, jobRefusal, pictureDirection, jobDirection, plan}
 
 -- a picture without padding into one like it, one iteration of relaxation 1, with thresholds 3 and 24 and the scratch
@@ -40,10 +41,10 @@ tight source width height =
       swings-len = 30;
     }
 
-row : List ℕ
+unfoldable pub row : List ℕ
 row = 0 ∷ 0 ∷ 0 ∷ 50 ∷ 100 ∷ 150 ∷ 200 ∷ 250 ∷ 250 ∷ 250 ∷ []
 
-ramp : Job
+unfoldable pub ramp : Job
 unfolding row
 ramp = tight (row ++ (row ++ row)) 10 3
 
@@ -58,7 +59,7 @@ unfolding ramp row plan jobRefusal pairRefusal layoutRefusal factorRefusal itera
 ramp-refused = refl
 
 -- 3 by 10: from row to row as the ramp by 10, from column to column by 100
-columns : Job
+unfoldable pub columns : Job
 columns =
     tight
     (0 ∷ 100 ∷ 200 ∷ 0 ∷ 100 ∷ 200 ∷ 0 ∷ 100 ∷ 200 ∷ 10 ∷ 110 ∷ 210 ∷ 20 ∷ 120 ∷ 220
@@ -66,10 +67,22 @@ columns =
     3
     10
 
-columns-run : plan columns ≡ accepts (record
-    { direction = Vertical; «blur_length» = 5; estimate = ofBits binary64 0x4014_0000_0000_0000 })
-unfolding columns plan jobRefusal pairRefusal layoutRefusal factorRefusal iterationsRefusal within pictureDirection
-    estimateOf tensorSums tensorDirection interiorSum rowSum gradientX gradientY total startCol startRow swingsFrom
-    lineSwings swingsOf runsAfter runsFrom riseOf levelOf crossedAt placeAt crossingOf riseBetween oddOf oddLength
-    ofBits ofInt add sub mul div le lt eq
-columns-run = refl
+-- each of its bytes b as 250 − b
+unfoldable pub inverted : Job
+inverted =
+    tight
+    (250 ∷ 150 ∷ 50 ∷ 250 ∷ 150 ∷ 50 ∷ 250 ∷ 150 ∷ 50 ∷ 240 ∷ 140 ∷ 40 ∷ 230 ∷ 130 ∷ 30
+    ∷ 220 ∷ 120 ∷ 20 ∷ 210 ∷ 110 ∷ 10 ∷ 200 ∷ 100 ∷ 0 ∷ 200 ∷ 100 ∷ 0 ∷ 200 ∷ 100 ∷ 0 ∷ [])
+    3
+    10
+
+-- the estimate is 5.0
+unfoldable pub vertical-5 : JobResult
+vertical-5 = record { direction = Vertical; «blur_length» = 5; estimate = ofBits binary64 0x4014_0000_0000_0000 }
+
+pub runs : (plan columns ≡ accepts vertical-5) × (plan inverted ≡ accepts vertical-5)
+unfolding columns inverted vertical-5 plan jobRefusal pairRefusal layoutRefusal factorRefusal iterationsRefusal within
+    pictureDirection estimateOf tensorSums tensorDirection interiorSum rowSum gradientX gradientY total startCol
+    startRow swingsFrom lineSwings swingsOf runsAfter runsFrom riseOf levelOf crossedAt placeAt crossingOf riseBetween
+    oddOf oddLength ofBits ofInt add sub mul div le lt eq
+runs = (refl, refl)

@@ -1,9 +1,13 @@
 -- The laws of `job`, by subject.
+pub mod Conditions
+pub mod Determined
 pub mod Examples
 pub mod JobExamples
 pub mod NearPicture
 pub mod Plans
+pub mod Same
 pub mod Settings
 pub mod Assembly
 pub mod Parameters
 pub mod Demands
+pub mod WrongPrograms

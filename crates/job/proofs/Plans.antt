@@ -305,6 +305,9 @@ module _ (j : Job) {result : JobResult} (e : plan j ≡ accepts result) where
   pub plan-length : LengthTaken (j .source .width) (j .source .height) (result .«blur_length»)
   plan-length = plan-done .1 .taken
 
+  pub plan-measured : jobLength j ≡ Found (result .estimate)
+  plan-measured = plan-done .1 .found
+
   pub plan-estimate : Positive binary64 (result .estimate)
   plan-estimate =
       let m = plan-done .1 in

@@ -7,22 +7,7 @@
 -- image/specs/Call: Outcome, and `Painted`.
 -- Demand 2. "On pictures of up to 1,024 by 1,024 and at most 22 iterations, every answer and pixel is proved equal to
 -- document 01's definitions." The contract of each call fixes its answer, and what it writes, by definitions:
---
---   call                                                      contract
---   image    layout_refusal, pair_refusal                     image/specs/Refusal: layoutRefusal, pairRefusal
---   image    pixel_of, row_of                                 image/specs/Picture: pixelOf, rowOf
---   raster   RasterDirection4::from_angle, step, index        raster/specs/Direction: fromAngle, stepOf, directionIndex
---   tensor   estimate_line_direction                          tensor/specs/Tensor: directionDecision
---   blur     estimate_along                                   blur/specs/Length: LengthMeasured
---   blur     estimate_line_length, estimate_line_length_with  blur/specs/Length: LengthMeasured
---   deblur   van_cittert_line_into                            deblur/specs/Calls: Filtered, at restorationOf
---   deblur   directional_unsharp_line_into                    deblur/specs/Calls: Filtered, at unsharpOf
---   deblur   van_cittert_estimate_into                        deblur/specs/Calls: EstimateWritten
---   sharpen  fixed_binomial_unsharp_into                      sharpen/specs/Call: Sharpened
---   job      restore                                          job/specs/Job: Restored
---   blur, deblur, job  defaults of the settings               defaults, vanCittertDefault, unsharpDefault, jobDefault
---
--- Calls in other rooms (views, C, the program) cite the same records.
+-- docs/SPEC.md, "Contracts", lists the calls with their contracts and the theorems that these determine all.
 -- Demand 3 is `Demand-3`, at the end. Both are proved in proofs/Demands.antt.
 use Prim.Native.Nat.{ℕ, _+_, _*_, _≤_, _<_}
 use mathlib.Core.Bool.{false}

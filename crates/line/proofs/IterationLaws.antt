@@ -1,6 +1,6 @@
 -- The laws of the iteration over any window. What its definitions say, one law for each, so that no other file unfolds
--- them. Then, over a lawful window: estimates depend on the samples of the picture alone (`after-same`), and document
--- 01's "|Yk| ≤ 255 × (2^(k+1) − 1)" (`after-within`), which fits an i32 (`after-fits`).
+-- them. Then: estimates depend on the samples of the picture alone where the window does (`after-same`), and, over a
+-- lawful window, document 01's "|Yk| ≤ 255 × (2^(k+1) − 1)" (`after-within`), which fits an i32 (`after-fits`).
 use mathlib.Core.Path.{_≡_, refl, sym, ap, ap₂, _∙_}
 use Prim.Native.Nat.{ℕ, zero, suc, _+_, _-_, _*_, _^_, _≤_, _<_}
 use native.Mathlib.Nat.{le-refl, mul-comm, mul-le-mul-left, mul-le-mul-right, div-le-of-le-mul}
@@ -46,9 +46,13 @@ Same On y z = (p : _) → On p → y p ≡ z p
 abbrev pub Bounded : {P : Type 0} → (P → Type 0) → ℕ → (P → ℤ) → Type 0
 Bounded On B y = (p : _) → On p → natAbs (y p) ≤ B
 
+-- a window that depends on the samples of the picture alone
+abbrev pub Reads : {P : Type 0} → (P → Type 0) → Window P → Type 0
+Reads On W = (y z : _) → Same On y z → (p : _) → W y p ≡ W z p
+
 -- What the laws ask of a window: outside the picture it takes samples of the picture, or bytes.
 pub record LawfulWindow {P : Type 0} (On : P → Type 0) (W : Window P) (taps : ℕ) : Type 0 where
-  pub same : (y z : P → ℤ) → Same On y z → (p : P) → W y p ≡ W z p
+  pub same : Reads On W
   pub within : (y : P → ℤ) (B : ℕ) → Bounded On B y → 255 ≤ B → (p : P) → natAbs (W y p) ≤ taps * B
 
 -- the step's quotient, for q ≤ g × 65,536
@@ -57,10 +61,10 @@ residual-within x q g h =
     rw (natAbs-quot (x *ℤ pos q) (pos scale), natAbs-mul x (pos q))
     (div-le-of-le-mul scale (omega (arith, mul-le-mul-left (natAbs x) h)))
 
-module _ {P : Type 0} {On : P → Type 0} {W : Window P} {taps : ℕ} (l : LawfulWindow On W taps) where
+module _ {P : Type 0} {On : P → Type 0} {W : Window P} (taps : ℕ) (reads : Reads On W) where
   pub mean-same : (y z : P → ℤ) → Same On y z → (p : P) → mean W taps y p ≡ mean W taps z p
   mean-same y z d p =
-      mean-is W taps y p ∙ ap (λ (x : ℤ). shrZ x taps) (l .same y z d p) ∙ sym (mean-is W taps z p)
+      mean-is W taps y p ∙ ap (λ (x : ℤ). shrZ x taps) (reads y z d p) ∙ sym (mean-is W taps z p)
 
   module _ (b c : P → ℤ) (e : Same On b c) (q : ℕ) where
     pub stepped-same : (y z : P → ℤ) → Same On y z → Same On (stepped W taps b q y) (stepped W taps c q z)

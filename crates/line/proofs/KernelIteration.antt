@@ -26,7 +26,7 @@ use Rattle.line.specs.Kernel.{KernelAsked, lineAt, estimateAfter, Gather
 use Rattle.line.specs.Kernel.{largest, Reciprocal, MeanAsked, MeansWritten, StepAsked, LineStepped}
 use Rattle.line.proofs.IterationLaws.{LawfulWindow, stepped-is, after-zero, after-next, mean-same, stepped-same}
 use Rattle.line.proofs.IterationLaws.{mean-within, unsharp-within, after-most, after-fits}
-use Rattle.line.proofs.LineWindow.{Bounded, line-window, after-same}
+use Rattle.line.proofs.LineWindow.{Bounded, line-window, border-of-line, after-same}
 use Rattle.line.proofs.KernelSum.{largest-byte, largest-most}
 
 -- the mean's settings
@@ -53,7 +53,8 @@ module _ (K : LineKernel) (n : ℕ) (some : 1 ≤ n) (value : borderValue (K .bo
     unsharp-size : Bounded n 4335 (estimateAfter K n b (0 + 1))
     unsharp-size i p =
         let zero-is : (j : ℕ) → j < n → estimateAfter K n b 0 j ≡ b j = λ j _. after-zero sums L b (K .q) j in
-        let same = stepped-same lawful-window b b (λ _ _. refl) (K .q) (estimateAfter K n b 0) b zero-is i p in
+        let reads = lawful-window .same in
+        let same = stepped-same L reads b b (λ _ _. refl) (K .q) (estimateAfter K n b 0) b zero-is i p in
         rw (after-next sums L b (K .q) 0 i ∙ same)
         (unsharp-within lawful-window (T .long) b bytes (K .q) (T .gain) i p)
 
@@ -115,7 +116,7 @@ module _ (K : LineKernel) (n : ℕ) (some : 1 ≤ n) (value : borderValue (K .bo
               let on = part-iff (n + n + 0) (n - 0) (n + n + i) .1 (omega arith, omega arith) in
               W .written .hits (n + n + i) (omega (arith, room)) on
               ∙ ap (mean (borderMap (K .border) n) (lineAt n xs) L) (add-sub-cancel-left (n + n) i)
-              ∙ mean-same lawful-window (lineAt n xs) (estimateAfter K n b k) (I .estimate) i
+              ∙ mean-same L (lawful-window .same) (lineAt n xs) (estimateAfter K n b k) (I .estimate) i
 
           -- one step from these
           step-is : (i : ℕ) → i < n
@@ -169,9 +170,7 @@ module _ (K : LineKernel) (n : ℕ) (some : 1 ≤ n) (value : borderValue (K .bo
     {xs : List ℤ} (I : Iterated K n b k xs) where
   -- the same estimates, whatever the samples' name
   renamed : (j i : ℕ) → i < n → estimateAfter K n (lineAt 0 xs) j i ≡ estimateAfter K n b j i
-  renamed j =
-      let l = border-lawful (K .border) n some value in
-      after-same l (lineAt 0 xs) b (I .observed) (K .q) (K .«blur_length») j
+  renamed = after-same (border-of-line (K .border) n some) (lineAt 0 xs) b (I .observed) (K .q) (K .«blur_length»)
 
   pub iteration-asked : n ≤ maxSide → 3 * n ≤ length xs → KernelAsked K → k < K .iterations → Bounded n 255 b
       → IterationAsked K n k xs

@@ -22,7 +22,7 @@ use Rattle.line.specs.Line.{sample, mean}
 use Rattle.line.specs.Kernel.{lineAt, largest, MeanAsked, mapOf, windowAt, sampleAt, opening, MeansWritten}
 use Rattle.line.proofs.IterationLaws.{mean-is, mean-same}
 use Rattle.line.proofs.LineLaws.{sample-at, window-is, window-slide}
-use Rattle.line.proofs.LineWindow.{sample-same, sample-within, line-window}
+use Rattle.line.proofs.LineWindow.{lawful-of-line, sample-same, sample-within, window-reads, line-window}
 use Rattle.line.proofs.KernelSum.{largest-byte, largest-most}
 
 -- the place p of the mean part
@@ -63,7 +63,7 @@ module _ (s : MeanSettings) {old : List ℤ} (A : MeanAsked s old) where
         written-kept (W .written) (s .n + i) (part-before (s .n + s .n + a) (e - a) (s .n + i) (omega arith))
 
     pub sample-kept : (p : ℤ) → sample (mapOf s) (lineAt (s .n) new) p ≡ sample (mapOf s) (lineAt (s .n) old) p
-    sample-kept p = sample-same lawful (lineAt (s .n) new) (lineAt (s .n) old) line-kept p
+    sample-kept p = sample-same (lawful-of-line lawful) (lineAt (s .n) new) (lineAt (s .n) old) line-kept p
 
     -- a place u − L/2 of the line
     pub sample-on : (u : ℕ) → s .«blur_length» / 2 ≤ u → u < s .«blur_length» / 2 + s .n
@@ -73,7 +73,8 @@ module _ (s : MeanSettings) {old : List ℤ} (A : MeanAsked s old) where
         ∙ sym (sample-at lawful (lineAt (s .n) old) u (s .«blur_length» / 2) h k)
 
     pub window-kept : (p : ℕ) → windowAt s new p ≡ windowAt s old p
-    window-kept = line-window lawful (s .«blur_length») .same (lineAt (s .n) new) (lineAt (s .n) old) line-kept
+    window-kept =
+        window-reads (lawful-of-line lawful) (s .«blur_length») (lineAt (s .n) new) (lineAt (s .n) old) line-kept
 
     pub asked-kept : MeanAsked s new
     asked-kept =
@@ -118,7 +119,7 @@ module _ (s : MeanSettings) {old : List ℤ} (A : MeanAsked s old) where
             written-join (F .written)
             (written-same (S .written) (λ j _. refl)
             (λ j _ _.
-            let w = line-window lawful (s .«blur_length») in
-            mean-same w (lineAt (s .n) mid) (lineAt (s .n) old) (line-kept F) (j - (s .n + s .n))))
+            let w = window-reads (lawful-of-line lawful) (s .«blur_length») in
+            mean-same (s .«blur_length») w (lineAt (s .n) mid) (lineAt (s .n) old) (line-kept F) (j - (s .n + s .n))))
             (part-join (s .n + s .n + a) (b - a) (s .n + s .n + b) (e - b) (e - a) (omega arith) (omega arith));
       }

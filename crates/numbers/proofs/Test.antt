@@ -1,14 +1,15 @@
 -- Laws of tests that `lib.Dec`, `borrow.Author.Tests` and `mathlib.Core.Bool` lack. In order: a test's two cases, with
--- the equation; false is not true; tests that hold together are equal; `&&` and `||`; `cond`.
+-- the equation; false is not true; tests that hold together are equal; `&&` and `||`; a test and the
+-- fact that it tells; `cond`.
 --
 -- Not here: `ltb-true`, `lt-ltb` and their like, between a test and its fact (`borrow.Author.Tests`);
 -- `and-eq-true-iff`, `&&` into a pair and back, and `or-eq-true-iff` (`mathlib.Core.Bool`).
 use mathlib.Core.Path.{_≡_, refl, sym, _∙_}
 use mathlib.Core.Bool.{Bool, true, false, _&&_, _||_, cond, true≢false, false≢true}
-use mathlib.Core.Logic.{_⊎_, inl, inr, ⊎-elim}
-use Prim.Native.Nat.{ℕ}
-use borrow.Author.Tests.{eqb-true, eqb-false}
-use lib.Dec.{eqb}
+use mathlib.Core.Logic.{_⊎_, inl, inr, ⊎-elim, _↔_}
+use Prim.Native.Nat.{ℕ, _<_}
+use borrow.Author.Tests.{eqb-true, eqb-false, eq-eqb, ltb-true, lt-ltb}
+use lib.Dec.{eqb, ltb}
 
 -- ---- two cases, with the equation
 
@@ -67,6 +68,28 @@ pub or-place : (a b : Bool) (i j : ℕ) → (a ≡ true → (j ≡ i → ⊥) �
     → a ≡ (b || eqb j i)
 or-place a b i j f g h =
     or-ext a b (eqb j i) (λ e. by-test (eqb j i) inr (λ q. inl (f e (eqb-false j i q)))) g (λ e. h (eqb-true j i e))
+
+-- ---- a test and the fact that it tells
+
+pub eqb-iff : (m n : ℕ) → (eqb m n ≡ true) ↔ (m ≡ n)
+eqb-iff m n = (eqb-true m n, eq-eqb m n)
+
+pub ltb-iff : (m n : ℕ) → (ltb m n ≡ true) ↔ (m < n)
+ltb-iff m n = (ltb-true m n, lt-ltb m n)
+
+-- a test that fails
+pub false-iff {ℓ} : {A : Type ℓ} (a : Bool) → (a ≡ true) ↔ A → (a ≡ false) ↔ (A → ⊥)
+false-iff a f = (λ e x. false-not-true e (f .1 x), λ h. false-of-not a (λ e. h (f .0 e)))
+
+module _ {ℓ κ} {A : Type ℓ} {B : Type κ} where
+  pub or-iff : (a b : Bool) → (a ≡ true) ↔ A → (b ≡ true) ↔ B → ((a || b) ≡ true) ↔ (A ⊎ B)
+  or-iff true b f g = (λ _. inl (f .0 refl), λ _. refl)
+  or-iff false b f g = (λ e. inr (g .0 e), ⊎-elim (λ x. absurd (false≢true (f .1 x))) (g .1))
+
+  pub and-false-iff : (a b : Bool) → (a ≡ true) ↔ A → (b ≡ true) ↔ B → ((a && b) ≡ false) ↔ ((A → ⊥) ⊎ (B → ⊥))
+  and-false-iff true b f g =
+      (λ e. inr (false-iff b g .0 e), ⊎-elim (λ h. absurd (h (f .0 refl))) (false-iff b g .1))
+  and-false-iff false b f g = (λ _. inl (false-iff false f .0 refl), λ _. refl)
 
 -- ---- `cond`
 

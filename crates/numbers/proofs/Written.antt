@@ -15,7 +15,7 @@ use borrow.Rule.Slice.PartMut.{same-len-mid}
 use lib.Arith.{digits-div, digits-mod}
 use lib.Dec.{ltb, eqb}
 use lib.ListN.{length, getD, set, take, drop, length-set, List·getD-eq-default}
-use lib.Seq.{getD-set-same, getD-set-other}
+use lib.Seq.{getD-set-same, getD-set-other, ext-getD}
 use Rattle.numbers.specs.Written.{Written, Painted, part}
 use Rattle.numbers.proofs.List.{getD-part, length-part, getD-back-before, getD-back-within, getD-back-after}
 use Rattle.numbers.proofs.Places.{part-iff, within, within-iff, pixels-at, pixels-iff}
@@ -94,6 +94,13 @@ module _ {A : Type 0} {z : A} {g : ℕ → A} {old : List A} where
     written-each P o w j c =
         let b : j < length old = rw (W .same-length) at c in
         by-test (hit j) (λ e. rw (W .hits j b e) (w j b e)) (λ e. rw (W .rest j b e) (o j b))
+
+-- one old list, one new list
+pub written-one : {A : Type 0} {z : A} {hit : ℕ → Bool} {g : ℕ → A} {old new new′ : List A} → Written z hit g old new
+    → Written z hit g old new′ → new ≡ new′
+written-one {z = z} {old = old} {new} {new′} F S =
+    ext-getD z new new′ (F .same-length ∙ sym (S .same-length))
+    (λ j b. let c : j < length old = rw (F .same-length) at b in written-get F j c ∙ sym (written-get S j c))
 
 -- ---- a painted picture
 

@@ -1,18 +1,18 @@
 -- Laws of the answers: when fields are checked, a record is read, and a slice is written.
 use mathlib.Core.Path.{_≡_, refl, sym, ap, _∙_}
 use mathlib.Core.Bool.{true, false}
-use mathlib.Core.List.{List, [], _++_}
-use Prim.Native.Nat.{ℕ, _≤_}
+use mathlib.Core.List.{List, [], _∷_, _++_}
+use Prim.Native.Nat.{ℕ, suc, _+_, _*_, _≤_}
 use native.Mathlib.Nat.{le-of-eq}
 use native.Mathlib.Omega.{arith}
 use borrow.Author.Tests.{ne-eqb}
 use lib.Dec.{lit≤}
-use lib.ListN.{length, drop}
-use lib.Seq.{sets, sets-eq, drop-length}
+use lib.ListN.{length, take, drop}
+use lib.Seq.{sets, sets-eq, drop-length, drop-append-add, take-at}
 use lib.Ieee.Scale.{finite}
 use Rattle.numbers.proofs.Test.{false-not-true, false-of-not}
 use Rattle.record.specs.Bytes.{bytesOf}
-use Rattle.record.specs.Fields.{decoded, encoded, legal}
+use Rattle.record.specs.Fields.{decoded, encoded, backToBack, recordAt, legal}
 use Rattle.record.specs.Record.{filterFrom, recordOf, fieldsOf, checked, recordFields, readFields, readRecord}
 use Rattle.record.specs.Record.{toWrite, writeNumber, writeBytes, Wrote}
 use Rattle.record.specs.declared.fields.Fields.{Fields}
@@ -76,6 +76,17 @@ module _ (xs : List ℕ) where
 pub encoded-length : (f : Fields) → length (encoded f) ≡ 32
 unfolding encoded bytesOf
 encoded-length f = refl
+
+-- records back to back: each is found again, whatever stands before and after it
+pub record-found : (fs : List Fields) (f : Fields) (gs : List Fields)
+    → recordAt (backToBack (fs ++ f ∷ gs)) (length fs) ≡ encoded f
+record-found [] f gs = take-at (encoded f) (backToBack gs) 32 (encoded-length f)
+record-found (g ∷ fs) f gs =
+    let rest = backToBack (fs ++ f ∷ gs) in
+    let next : suc (length fs) * 32 ≡ 32 + length fs * 32 = omega arith in
+    ap (λ (n : ℕ). take 32 (drop n (encoded g ++ rest))) next
+    ∙ ap (take 32) (rw (encoded-length g) at (drop-append-add (encoded g) rest (length fs * 32)))
+    ∙ record-found fs f gs
 
 -- 32 bytes, stored from place 0 on, are the whole slice
 pub stored-whole : (f : Fields) (old : List ℕ) → length old ≡ 32 → sets old 0 (encoded f) ≡ encoded f

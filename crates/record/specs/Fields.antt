@@ -3,7 +3,7 @@ use mathlib.Core.Bool.{Bool, _&&_, _||_}
 use mathlib.Core.List.{List, [], _∷_, _++_}
 use Prim.Native.Nat.{ℕ, _*_, _%_}
 use lib.Dec.{leb, eqb}
-use lib.ListN.{getD}
+use lib.ListN.{getD, take, drop}
 use lib.Ieee.{binary64, ofBits, lt}
 use lib.Ieee.Scale.{finite}
 use Rattle.floats.specs.Factor.{scale, maxRelaxation, maxGain}
@@ -54,6 +54,15 @@ encoded f =
     headBytes (f .head .width) (f .head .height) (f .direction) (f .border) (f .value) (f .head .filter)
     ++ countBytes (f .«blur_length») (f .iterations) (f .q)
     ++ doubleBytes (f .angle) (f .estimate)
+
+-- "records back to back"
+abbrev pub backToBack : List Fields → List ℕ
+backToBack [] = []
+backToBack (f ∷ fs) = encoded f ++ backToBack fs
+
+-- the bytes of record i, from 0 on
+abbrev pub recordAt : List ℕ → ℕ → List ℕ
+recordAt xs i = take 32 (drop (i * 32) xs)
 
 -- ---- the limits
 

@@ -1,4 +1,5 @@
--- What the contracts of `record` cite.
+-- What the contracts of `record` cite, and statements about them.
 pub mod Bytes
 pub mod Fields
 pub mod Record
+pub mod Conditions

@@ -1,4 +1,5 @@
--- What the contracts of `sharpen` cite.
+-- What the contracts of `sharpen` cite, and statements about them.
 pub mod Binomial
 pub mod Passes
 pub mod Call
+pub mod Conditions

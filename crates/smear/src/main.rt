@@ -6,7 +6,8 @@ use smear_run::MOST_PIXELS;
 use smear_run::MOST_PRINTED;
 use smear_run::RunAnswer;
 
-// As much of the file as the slice holds, and how much that is. A file that is missing counts as empty.
+// As much of the file as the slice holds, and how much that is. A file that is missing counts as empty, and so does a
+// folder, of which nothing can be read.
 fn read_file(path: &[u8], bytes: &mut [u8]) -> usize
     ensures { λ r. ⌜ Counts r (now (bytes .exit)) ⌝ }
 {
@@ -32,6 +33,7 @@ fn main() {
         RunAnswer::Written(n) => {
             io::write_all(STDOUT_FILENO, &out[..n]);
         }
+        // Never: MOST_PRINTED is room for all that is printed (smear_run/proofs/Most).
         RunAnswer::Refused(_) => {}
     }
 }

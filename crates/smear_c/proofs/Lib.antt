@@ -1,3 +1,5 @@
 -- The laws of `smear_c`, by subject.
+pub mod Determined
 pub mod Outs
 pub mod RestorationDecision
+pub mod Same

@@ -1,7 +1,10 @@
 -- Laws of `smear_run`.
+pub mod Conditions
+pub mod Determined
 pub mod Fronts
 pub mod Stages
 pub mod Printed
 pub mod Results
 pub mod Most
+pub mod Surplus
 pub mod Examples

@@ -97,11 +97,11 @@ module _ (bytes : List ℕ) (r : Record) (reads : readRecord bytes ≡ read.Reco
       go (Restoration x) e =
           rw (stage-restoration r picture e)
           (line-written (restorationOf (recordRestoration r x))
-          (λ e. restoration-taken (r .width) (r .height) (recordRestoration r x) e .0) (rw e (omega arith)))
+          (λ e. restoration-taken (r .width) (r .height) (recordRestoration r x) e .length-taken) (rw e (omega arith)))
       go (Unsharp x) e =
           rw (stage-unsharp r picture e)
           (line-written (unsharpOf (recordUnsharp r x))
-          (λ e. unsharp-taken (r .width) (r .height) (recordUnsharp r x) e .0) (rw e (omega arith)))
+          (λ e. unsharp-taken (r .width) (r .height) (recordUnsharp r x) e .length-taken) (rw e (omega arith)))
       go Binomial e = rw (stage-binomial r picture e) (own-written e)
 
   pub result-written : (m : Made) → stage r picture ≡ accepts m → writeNumber (recordFields (m .result)) ≡ 0

@@ -1,8 +1,8 @@
 -- What the program prints (document 01, "The 32-byte record"), as a list of bytes that the bytes of its two files give.
 use mathlib.Core.Path.{_≡_}
-use mathlib.Core.Bool.{cond}
+use mathlib.Core.Bool.{true, cond}
 use mathlib.Core.List.{List, [], _∷_, _++_}
-use Prim.Native.Nat.{ℕ, zero, suc, _+_, _*_, _/_, _%_}
+use Prim.Native.Nat.{ℕ, zero, suc, _+_, _*_, _/_, _%_, _≤_}
 use lib.Dec.{ltb}
 use lib.ListN.{length, drop}
 use Rattle.image.specs.Call.{Decision, accepts, refuses, Outcome}
@@ -60,6 +60,13 @@ outputOf (read.Refused number) picture = refusedText number
 unfoldable pub output : List ℕ → List ℕ → List ℕ
 unfolding jobOutput
 output job picture = outputOf (readRecord job) picture
+
+-- "surplus picture bytes are ignored", where the picture holds all pixels that are read for this job. One that is too
+-- short gives 4, and is longer with surplus bytes.
+abbrev pub Whole : List ℕ → List ℕ → Type 0
+Whole job picture =
+    (r : Record) → readRecord job ≡ read.Record r → isJob r ≡ true → r .width * r .height ≤ mostPixels
+    → r .width * r .height ≤ length picture
 
 -- ---- the call
 

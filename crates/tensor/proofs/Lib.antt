@@ -1,5 +1,6 @@
 -- The laws of `tensor`, by subject.
 pub mod Answer
+pub mod Conditions
 pub mod Gradient
 pub mod Same
 pub mod TensorDirection

@@ -1,18 +1,18 @@
--- Two pictures with the same pixels have the same gradients, sums and decision.
+-- Two pictures with the same pixels have the same gradients, sums and decision (`direction-same`).
 use mathlib.Core.List.{List}
 use mathlib.Core.Path.{_≡_, sym, _∙_, ap, ap₂}
 use Prim.Native.Nat.{ℕ, _+_, _-_, _<_}
 use native.Mathlib.Omega.{arith}
 use lib.IntN.{ℤ, pos, _-ℤ_, _*ℤ_}
 use lib.ListN.{length}
-use Rattle.image.specs.Call.{gray8, accepts}
+use Rattle.image.specs.Call.{Gray8, accepts}
 use Rattle.image.specs.Picture.{pixel, rowOf}
 use Rattle.image.specs.Refusal.{Laid}
+use Rattle.image.specs.Same.{SamePicture}
 use Rattle.image.proofs.Picture.{row-length, row-pixel}
 use Rattle.image.proofs.Refusal.{accepted}
 use Rattle.numbers.proofs.Sum.{total-same}
 use Rattle.tensor.specs.declared.direction.RowSums.{RowSums}
-use Rattle.tensor.specs.declared.direction.TensorSums.{TensorSums}
 use Rattle.tensor.specs.Tensor.{
   estimateOf,
   smooth,
@@ -93,13 +93,18 @@ module _ {p q : ℕ → ℕ → ℕ} (w h : ℕ) (same : (c r : ℕ) → c < w �
       (λ y _ k. ap (λ (r : RowSums). r .e) (rowSums-same (same-rows y k))) in
       cc
 
-pub decision-same : (xs ys : List ℕ) {w h s t : ℕ} → Laid (length xs) w h s → Laid (length ys) w h t
-    → ((c r : ℕ) → c < w → r < h → pixel xs s c r ≡ pixel ys t c r)
-    → directionDecision (gray8 xs w h s) ≡ directionDecision (gray8 ys w h t)
-decision-same xs ys {w} {h} {s} {t} l m same =
-    direction-accepted xs w h s (accepted l)
-    ∙ ap (λ (sums : TensorSums). accepts (estimateOf w h sums)) (tensorSums-same w h same)
-    ∙ sym (direction-accepted ys w h t (accepted m))
+module _ {a b : Gray8} (same : SamePicture a b) where
+  pub found-same : estimateOf (a .width) (a .height) (tensorSums (pixel (a .bytes) (a .stride)) (a .width) (a .height))
+      ≡ estimateOf (b .width) (b .height) (tensorSums (pixel (b .bytes) (b .stride)) (b .width) (b .height))
+  found-same =
+      rw (← same .same-width, ← same .same-height)
+      (ap (estimateOf (a .width) (a .height)) (tensorSums-same (a .width) (a .height) (same .same-pixels)))
+
+  pub direction-same : directionDecision a ≡ directionDecision b
+  direction-same =
+      direction-accepted (a .bytes) (a .width) (a .height) (a .stride) (accepted (same .laid))
+      ∙ ap accepts found-same
+      ∙ sym (direction-accepted (b .bytes) (b .width) (b .height) (b .stride) (accepted (same .laid′)))
 
 -- ---- three rows of an accepted picture, taken out of it
 

@@ -23,8 +23,8 @@ told c = record { is = rw (c .before .restoration-refusal .ensures) at (c .estim
 returns : tie.Need-returns
 returns c = refused (told (c .before)) (c .if1 .taken)
 
-from-angle-requires : tie.Need-from-angle-requires
-from-angle-requires c κs = search needs
+raster-direction-requires : tie.Need-raster-direction-requires
+raster-direction-requires c κs = search needs
 
 line-kernel-requires : tie.Need-line-kernel-requires
 line-kernel-requires c κs =
@@ -48,7 +48,7 @@ returns-2 : tie.Need-returns-2
 returns-2 c =
     let r = c .before .before in
     let k = r .before .before .before in
-    done (told (k .before .before .before)) (k .before .before .if1 .left) (k .before .from-angle .ensures)
+    done (told (k .before .before .before)) (k .before .before .if1 .left) (k .before .raster-direction .ensures)
     (k .line-kernel .ensures) (r .estimates-along .ensures)
 
 pub van-cittert-estimate-into-spec : {M : Type 1} → statement M
@@ -58,7 +58,7 @@ van-cittert-estimate-into-spec =
     restoration-refusal-requires
     estimate-refusal-requires
     returns
-    from-angle-requires
+    raster-direction-requires
     line-kernel-requires
     estimates-along-requires
     same-length

@@ -1,6 +1,5 @@
 -- `deblur::kernel::estimates_along` meets its contract: the lines' at the stride of rows.
 use native.Mathlib.Omega.{arith}
-use Rattle.line.proofs.BorderByte.{kernel-byte}
 use Rattle.deblur.proofs.Along.{source-asked, along-painted}
 use Rattle.deblur.proofs.RowStride.{walked-tight}
 use borrow.Author.Needs.{needs}
@@ -32,8 +31,7 @@ returns c =
     let row = lines .before .before .before in
     let s = row .before .before in
     let a = s .args in
-    let byte = kernel-byte (a .kernel) _ (s .good .1 .1 .1 .1 .1 .1 .0) in
-    along-painted (λ v. v) (a .«data» .now) (a .width) (a .height) (a .stride) _ (a .direction) (a .kernel) byte
+    along-painted (λ v. v) (a .«data» .now) (a .width) (a .height) (a .stride) _ (a .direction) (a .kernel)
     (rw (row .row-stride .ensures) at (lines .estimate-lines-into .ensures))
 
 pub estimates-along-spec : {M : Type 1} → statement M

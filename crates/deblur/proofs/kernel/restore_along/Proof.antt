@@ -1,7 +1,6 @@
 -- `deblur::kernel::restore_along` meets its contract: the lines' at the strides of rows.
 use native.Mathlib.Omega.{arith}
 use Rattle.numbers.specs.Scalar.{clampByte}
-use Rattle.line.proofs.BorderByte.{kernel-byte}
 use Rattle.deblur.specs.Lines.{kernelEstimate}
 use Rattle.deblur.proofs.Along.{source-asked, along-painted}
 use Rattle.deblur.proofs.RowStride.{walked, painted-stride}
@@ -39,13 +38,12 @@ returns c =
     let row = dst-row .before .before in
     let s = row .before .before .before in
     let a = s .args in
-    let byte = kernel-byte (a .kernel) _ (s .good .1 .1 .1 .1 .1 .1 .1 .0) in
     let painted = rw (row .row-stride .ensures, dst-row .row-stride2 .ensures) at (lines .restore-lines-into .ensures)
     in
     painted-stride (λ x y. clampByte (kernelEstimate (a .«data» .now) (a .width) (a .height) (a .stride) (a .direction)
     (a .kernel) x y)) (a .width) (a .height) (a .dst-stride)
     (s .pre .1 .width-pos) (s .pre .1 .stride-least)
-    (along-painted clampByte (a .«data» .now) (a .width) (a .height) (a .stride) _ (a .direction) (a .kernel) byte
+    (along-painted clampByte (a .«data» .now) (a .width) (a .height) (a .stride) _ (a .direction) (a .kernel)
     painted)
 
 pub restore-along-spec : {M : Type 1} → statement M

@@ -6,7 +6,6 @@ use mathlib.Core.Path.{refl}
 use borrow.Author.Needs.{needs}
 use lib.ListN.{length}
 use Rattle.raster.specs.Lines.{byteOf}
-use Rattle.line.proofs.BorderByte.{kernel-byte}
 use Rattle.deblur.proofs.LineByLine.{line-start, line-asked, line-estimates}
 use Rattle.deblur.proofs.lines.restore_scan_line.Statement.{statement}
 use Rattle.deblur.proofs.lines.restore_scan_line.Tie as tie
@@ -53,7 +52,7 @@ returns c =
           line-estimates (s .pre .0 .walked .laid) (s .args .direction) (s .args .k) (s .pre .1) (l .line-at .result)
           (l .line-at .ensures) _ (c .before .before .before .place-step .ensures)
           (s .args .«data» .now) (s .args .kernel) (c .before .restore-line .last .1 .1 .1 .1 .1 .0)
-          (kernel-byte (s .args .kernel) _ (s .good .1 .1 .1 .1 .1 .1 .0)) (c .before .restore-line .ensures);
+          (c .before .restore-line .ensures);
     }
 
 pub restore-scan-line-spec : {M : Type 1} → statement M

@@ -1,0 +1,201 @@
+-- The line filters are given each number in its condition and otherwise never (`restoration-exactly`,
+-- `unsharp-exactly`, `estimate-exactly`), and 0 exactly where they are accepted (`filter-iff`, `estimate-iff`), their
+-- settings included (`restoration-iff`, `unsharp-iff`).
+use Prim.Native.Nat.{ℕ, _*_, _%_}
+use mathlib.Core.Bool.{Bool, true, false, not}
+use mathlib.Core.List.{List}
+use mathlib.Core.Logic.{_↔_}
+use mathlib.Core.Path.{_≡_, ap}
+use borrow.Author.Tests.{le-ltb, not-true}
+use lib.Ieee.{Float}
+use lib.Ieee.Scale.{finite}
+use lib.ListN.{length}
+use Rattle.floats.specs.Factor.{maxRelaxation, maxGain, within}
+use Rattle.image.specs.Call.{Gray8, numberOf}
+use Rattle.image.specs.Conditions.{Refusal, FirstMatch, Exactly}
+use Rattle.image.proofs.Conditions.{Numbered, match-none, match-test, match-then, decided-exactly}
+use Rattle.image.proofs.Conditions.{layout-matches, layout-numbered, pair-matches, pair-numbered}
+use Rattle.image.proofs.Pair.{accepted-pair}
+use Rattle.line.specs.Kernel.{maxIterations, maxBlurLength}
+use Rattle.numbers.proofs.Test.{eqb-iff, ltb-iff, or-iff}
+use Rattle.deblur.specs.declared.VanCittertConfig.{VanCittertConfig}
+use Rattle.deblur.specs.declared.DirectionalUnsharpConfig.{DirectionalUnsharpConfig}
+use Rattle.deblur.specs.Calls.{filterDecision, estimateDecision}
+use Rattle.deblur.specs.Conditions.{
+  lineConditions,
+  factorConditions,
+  iteratedConditions,
+  restorationConditions,
+  unsharpConditions,
+  filterConditions,
+  estimateConditions,
+}
+use Rattle.deblur.specs.Refusal.{
+  scratchNeeded,
+  blurLengthRefusal,
+  angleRefusal,
+  factorRefusal,
+  iterationsRefusal,
+  lineRefusal,
+  iteratedRefusal,
+  restorationRefusal,
+  unsharpRefusal,
+  filterRefusal,
+  estimateRefusal,
+  RestorationTaken,
+  UnsharpTaken,
+  FilterAccepted,
+  EstimateAccepted,
+}
+use Rattle.deblur.specs.Settings.{LineFilter, restorationOf, unsharpOf}
+use Rattle.deblur.proofs.Refusals.{first-0, line-0, factor-0, iterated-0, restoration-taken, unsharp-taken}
+use Rattle.deblur.proofs.Refusals.{order-0, filter-accepted, estimate-accepted, accepted-estimate}
+
+-- ---- the settings
+
+not-iff : (t : Bool) → (not t ≡ true) ↔ (t ≡ false)
+not-iff t = (not-true t, λ e. ap not e)
+
+line-matches : (width height L : ℕ) (angle : Float)
+    → FirstMatch (lineConditions width height L angle) (lineRefusal width height L angle)
+unfolding blurLengthRefusal angleRefusal
+line-matches width height L angle =
+    match-then
+    (match-test 7 match-none
+    (or-iff _ _ (or-iff _ _ (ltb-iff L 3) (eqb-iff (L % 2) 0)) (ltb-iff (maxBlurLength width height) L)))
+    (tt, tt)
+    (match-test 7 match-none (not-iff (finite angle)))
+
+factor-matches : (limit : ℕ) (factor : Float)
+    → FirstMatch (factorConditions limit factor) (factorRefusal limit factor)
+unfolding factorRefusal
+factor-matches limit factor = match-test 8 match-none (not-iff (within limit factor))
+
+pub iterated-matches : (relaxation : Float) (iterations : ℕ)
+    → FirstMatch (iteratedConditions relaxation iterations) (iteratedRefusal relaxation iterations)
+unfolding iterationsRefusal
+iterated-matches relaxation iterations =
+    match-then (factor-matches maxRelaxation relaxation) (tt, tt)
+    (match-test 8 (match-test 9 match-none (ltb-iff maxIterations iterations)) (eqb-iff iterations 0))
+
+module _ (width height : ℕ) where
+  restoration-matches : (config : VanCittertConfig)
+      → FirstMatch (restorationConditions width height config) (restorationRefusal width height config)
+  restoration-matches config =
+      match-then (line-matches width height (config .«blur_length») (config .«theta_radians»)) (tt, (tt, tt))
+      (iterated-matches (config .relaxation) (config .iterations))
+
+  restoration-numbered : (config : VanCittertConfig) → Numbered (restorationConditions width height config)
+  restoration-numbered config = (tt, (tt, (tt, (tt, (tt, tt)))))
+
+  unsharp-matches : (config : DirectionalUnsharpConfig)
+      → FirstMatch (unsharpConditions width height config) (unsharpRefusal width height config)
+  unsharp-matches config =
+      match-then (line-matches width height (config .«blur_length») (config .«theta_radians»)) (tt, (tt, tt))
+      (factor-matches maxGain (config .gain))
+
+  unsharp-numbered : (config : DirectionalUnsharpConfig) → Numbered (unsharpConditions width height config)
+  unsharp-numbered config = (tt, (tt, (tt, tt)))
+
+  pub restoration-iff : (config : VanCittertConfig)
+      → (restorationRefusal width height config ≡ 0) ↔ RestorationTaken width height config
+  restoration-iff config = (
+    restoration-taken width height config,
+    λ t. first-0 (line-0 width height (config .«theta_radians») (t .length-taken) (t .angle-finite))
+        (iterated-0 (config .relaxation) (config .iterations) (t .relaxation-taken) (t .iterations-taken)),
+  )
+
+  pub unsharp-iff : (config : DirectionalUnsharpConfig)
+      → (unsharpRefusal width height config ≡ 0) ↔ UnsharpTaken width height config
+  unsharp-iff config = (
+    unsharp-taken width height config,
+    λ t. first-0 (line-0 width height (config .«theta_radians») (t .length-taken) (t .angle-finite))
+        (factor-0 maxGain (config .gain) (t .gain-taken)),
+  )
+
+-- ---- the calls
+
+module _ (src : Gray8) (f : LineFilter) (settings : List Refusal)
+    (m : FirstMatch settings (f .refusal (src .width) (src .height))) (ok : Numbered settings) (scratchLen : ℕ) where
+  abbrev len : ℕ
+  len = length (src .bytes)
+
+  abbrev w : ℕ
+  w = src .width
+
+  abbrev h : ℕ
+  h = src .height
+
+  filter-exactly : (dst : Gray8)
+      → Exactly
+      (filterConditions len w h (src .stride) (length (dst .bytes)) (dst .width) (dst .height) (dst .stride) settings
+      scratchLen)
+      (numberOf (filterDecision src dst f scratchLen))
+  unfolding filterRefusal
+  filter-exactly dst =
+      decided-exactly
+      (match-then
+      (pair-matches len w h (src .stride) (length (dst .bytes)) (dst .width) (dst .height) (dst .stride))
+      (pair-numbered len w h (src .stride) (length (dst .bytes)) (dst .width) (dst .height) (dst .stride))
+      (match-then m ok (match-test 10 match-none (ltb-iff scratchLen (scratchNeeded w h)))))
+      (f .direction)
+
+  estimates-exactly : (dstLen : ℕ)
+      → Exactly (estimateConditions len w h (src .stride) dstLen settings scratchLen)
+      (numberOf (estimateDecision src dstLen f scratchLen))
+  unfolding estimateRefusal
+  estimates-exactly dstLen =
+      decided-exactly
+      (match-then (layout-matches len w h (src .stride)) (layout-numbered len w h (src .stride))
+      (match-then m ok
+      (match-test 10 match-none (or-iff _ _ (ltb-iff dstLen (w * h)) (ltb-iff scratchLen (scratchNeeded w h))))))
+      (f .direction)
+
+module _ (src : Gray8) where
+  pub restoration-exactly : (dst : Gray8) (config : VanCittertConfig) (scratchLen : ℕ)
+      → Exactly
+      (filterConditions (length (src .bytes)) (src .width) (src .height) (src .stride) (length (dst .bytes))
+      (dst .width) (dst .height) (dst .stride) (restorationConditions (src .width) (src .height) config) scratchLen)
+      (numberOf (filterDecision src dst (restorationOf config) scratchLen))
+  restoration-exactly dst config scratchLen =
+      filter-exactly src (restorationOf config) (restorationConditions (src .width) (src .height) config)
+      (restoration-matches (src .width) (src .height) config)
+      (restoration-numbered (src .width) (src .height) config) scratchLen dst
+
+  pub unsharp-exactly : (dst : Gray8) (config : DirectionalUnsharpConfig) (scratchLen : ℕ)
+      → Exactly
+      (filterConditions (length (src .bytes)) (src .width) (src .height) (src .stride) (length (dst .bytes))
+      (dst .width) (dst .height) (dst .stride) (unsharpConditions (src .width) (src .height) config) scratchLen)
+      (numberOf (filterDecision src dst (unsharpOf config) scratchLen))
+  unsharp-exactly dst config scratchLen =
+      filter-exactly src (unsharpOf config) (unsharpConditions (src .width) (src .height) config)
+      (unsharp-matches (src .width) (src .height) config) (unsharp-numbered (src .width) (src .height) config)
+      scratchLen dst
+
+  pub estimate-exactly : (dstLen : ℕ) (config : VanCittertConfig) (scratchLen : ℕ)
+      → Exactly
+      (estimateConditions (length (src .bytes)) (src .width) (src .height) (src .stride) dstLen
+      (restorationConditions (src .width) (src .height) config) scratchLen)
+      (numberOf (estimateDecision src dstLen (restorationOf config) scratchLen))
+  estimate-exactly dstLen config scratchLen =
+      estimates-exactly src (restorationOf config) (restorationConditions (src .width) (src .height) config)
+      (restoration-matches (src .width) (src .height) config)
+      (restoration-numbered (src .width) (src .height) config) scratchLen dstLen
+
+module _ (len width height stride dstLen settings scratchLen : ℕ) where
+  pub filter-iff : (dstWidth dstHeight dstStride : ℕ)
+      → (filterRefusal len width height stride dstLen dstWidth dstHeight dstStride settings scratchLen ≡ 0)
+      ↔ FilterAccepted len width height stride dstLen dstWidth dstHeight dstStride settings scratchLen
+  unfolding filterRefusal
+  filter-iff dstWidth dstHeight dstStride = (
+    filter-accepted len width height stride dstLen dstWidth dstHeight dstStride settings scratchLen,
+    λ a. order-0 _ settings _ (accepted-pair (a .pictures)) (a .settings-taken)
+        (le-ltb scratchLen (scratchNeeded width height) (a .scratch-least)),
+  )
+
+  pub estimate-iff : (estimateRefusal len width height stride dstLen settings scratchLen ≡ 0)
+      ↔ EstimateAccepted len width height stride dstLen settings scratchLen
+  estimate-iff = (
+    estimate-accepted len width height stride dstLen settings scratchLen,
+    accepted-estimate len width height stride dstLen settings scratchLen,
+  )

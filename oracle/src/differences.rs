@@ -1,0 +1,168 @@
+//! docs/DIFFERENCES.md, row by row: what its smallest inputs give on both sides, in a release build and, where this
+//! program is one, in a debug build. C has no views: what they answer here are theorems (`image/proofs/Examples:
+//! smallest-outside, smallest-no-row`), and `bindings/tests` has what the crate for Rust does.
+
+use crate::ffi::{
+    smear_estimate_line_direction, smear_restore, smear_run, smear_van_cittert_estimate, smear_van_cittert_line, Swing,
+};
+use qr_lab_image::{Gray8View, Gray8ViewMut, LumaError};
+use qr_lab_imgproc::blur::{estimate_line_direction, DirectionEstimate, RasterDirection4};
+use qr_lab_imgproc::deblur::{van_cittert_line_into, LineBorderMode, VanCittertConfig};
+use qr_lab_imgproc::ImgProcError;
+use std::panic::{catch_unwind, set_hook, take_hook, AssertUnwindSafe};
+
+const ROWS: [(&str, fn()); 9] = [
+    ("a picture of more than 1,024 pixels a side", sides),
+    ("a layout that is refused", layout),
+    ("more than 22 iterations", iterations),
+    ("workspaces", workspaces),
+    ("errors", errors),
+    ("direction from a picture at a tie", tie),
+    ("direction from a picture", direction),
+    ("a place outside a view", outside),
+    ("the estimate call, the whole job, records and the program", added),
+];
+
+/// Ends with a panic where a row is not as docs/DIFFERENCES.md has it.
+pub fn check() {
+    let table = include_str!("../../docs/DIFFERENCES.md").lines().filter(|line| line.starts_with("| ")).skip(1);
+    let first = |line: &'static str| line.split('|').nth(1).expect("a row has cells").trim();
+    assert_eq!(table.map(first).collect::<Vec<_>>(), ROWS.map(|(name, _)| name), "the rows of docs/DIFFERENCES.md");
+    ROWS.into_iter().for_each(|(_, shown)| shown());
+    println!("docs/DIFFERENCES.md: {} rows, each input gives what its row says", ROWS.len());
+}
+
+fn their_direction(pixels: &[u8], width: usize) -> DirectionEstimate {
+    estimate_line_direction(Gray8View::new(pixels, width, pixels.len() / width, width).unwrap())
+}
+
+/// The refusal, the direction's number, and A, C and E.
+fn our_direction(pixels: &[u8], width: usize, height: usize) -> (u8, u8, [i64; 3]) {
+    let (mut direction, mut a, mut c, mut e) = (0, 0, 0, 0);
+    let refusal = unsafe {
+        smear_estimate_line_direction(
+            pixels.as_ptr(), pixels.len(), width, height, width, &mut direction, &mut a, &mut c, &mut e,
+        )
+    };
+    (refusal, direction, [a, c, e])
+}
+
+/// What is answered; nothing where that panics.
+fn answered<T>(run: impl FnOnce() -> T) -> Option<T> {
+    set_hook(Box::new(|_| {}));
+    let answer = catch_unwind(AssertUnwindSafe(run)).ok();
+    drop(take_hook());
+    answer
+}
+
+/// The same, of what panics in a debug build.
+fn released<T>(answer: T) -> Option<T> {
+    (!cfg!(debug_assertions)).then_some(answer)
+}
+
+/// The Rust's restoration of a row.
+fn their_row(row: &[u8], config: VanCittertConfig) -> Result<Vec<u8>, ImgProcError> {
+    let (n, mut out) = (row.len(), vec![0; row.len()]);
+    let (src, dst) = (Gray8View::new(row, n, 1, n).unwrap(), Gray8ViewMut::new(&mut out, n, 1, n).unwrap());
+    van_cittert_line_into(src, dst, &config, &mut Default::default()).map(|_| out)
+}
+
+/// That of a picture of one pixel: the error.
+fn their_restoration(config: VanCittertConfig) -> Option<ImgProcError> {
+    their_row(&[7], config).err()
+}
+
+/// Ours, into a destination of the given width and with so much scratch: the refusal.
+fn our_restoration(config: VanCittertConfig, dst_width: usize, scratch: usize) -> u8 {
+    let (mut out, mut room, mut direction) = ([0], vec![0; scratch], 0);
+    let VanCittertConfig { theta_radians, blur_length, iterations, relaxation, .. } = config;
+    unsafe {
+        smear_van_cittert_line(
+            [7].as_ptr(), 1, 1, 1, 1, out.as_mut_ptr(), 1, dst_width, 1, 1, theta_radians, blur_length, iterations,
+            relaxation, 0, 0, room.as_mut_ptr(), scratch, &mut direction,
+        )
+    }
+}
+
+fn sides() {
+    assert_eq!(their_direction(&[0; 1025], 1025).raster_direction, RasterDirection4::Horizontal);
+    assert_eq!(our_direction(&[0; 1025], 1025, 1).0, 2);
+}
+
+fn layout() {
+    assert_eq!(Gray8View::new(&[], 0, 1, 0).err(), Some(LumaError::EmptyDimensions));
+    assert_eq!(our_direction(&[], 0, 1).0, 1);
+    assert_eq!(our_restoration(VanCittertConfig::default(), 0, 3), 5);
+}
+
+fn iterations() {
+    let config = VanCittertConfig { iterations: 23, ..Default::default() };
+    assert_eq!((their_restoration(config), our_restoration(config, 1, 3)), (None, 9));
+    let wraps = |iterations| {
+        let config = VanCittertConfig { iterations, border: LineBorderMode::Reflect, ..Default::default() };
+        answered(|| their_row(&[255, 0], config).unwrap())
+    };
+    assert_eq!((wraps(53), wraps(54)), (Some(vec![255, 0]), released(vec![0, 255])));
+}
+
+fn workspaces() {
+    let config = VanCittertConfig::default();
+    assert_eq!(their_restoration(config), None);
+    assert_eq!((our_restoration(config, 1, 2), our_restoration(config, 1, 3)), (10, 0));
+}
+
+fn errors() {
+    let length = VanCittertConfig { blur_length: 2, ..Default::default() };
+    let angle = VanCittertConfig { theta_radians: f64::NAN, ..Default::default() };
+    let factor = VanCittertConfig { relaxation: 2.0, ..Default::default() };
+    let none = VanCittertConfig { iterations: 0, ..Default::default() };
+    for (config, number) in [(length, 7), (angle, 7), (factor, 8), (none, 8)] {
+        assert_eq!(their_restoration(config), Some(ImgProcError::InvalidConfiguration));
+        assert_eq!(our_restoration(config, 1, 3), number);
+    }
+}
+
+fn tie() {
+    let pixels = [0, 0, 1, 1, 0, 0, 0, 0, 0, 0, 0, 0];
+    assert_eq!(their_direction(&pixels, 4).raster_direction, RasterDirection4::DownRight);
+    assert_eq!(our_direction(&pixels, 4, 3), (0, 0, [2, -4, 10]));
+}
+
+fn direction() {
+    let pixels = [0, 0, 0, 0, 0, 1, 0, 0, 0];
+    let DirectionEstimate { theta_radians, confidence, raster_direction } = their_direction(&pixels, 3);
+    assert_eq!((theta_radians, confidence), (1.5707963267948966, 1.0));
+    assert_eq!(raster_direction, RasterDirection4::Vertical);
+    assert_eq!(our_direction(&pixels, 3, 3), (0, 2, [4, 0, 0]));
+}
+
+fn outside() {
+    let (bytes, mut out) = ([7, 9], [7, 9]);
+    let view = Gray8View::new(&bytes, 1, 1, 2).unwrap();
+    let view_mut = Gray8ViewMut::new(&mut out, 1, 1, 2).unwrap();
+    assert_eq!((answered(|| view.get(1, 0)), answered(|| view_mut.get(1, 0))), (released(9), released(9)));
+    assert_eq!(view.try_get(1, 0), None);
+    assert_eq!((answered(|| view.row(1).len()), answered(|| view_mut.row(1).len())), (None, None));
+}
+
+fn added() {
+    let (mut estimate, mut room, mut out, mut direction) = ([0], [0; 3], [0], 0);
+    let refusal = unsafe {
+        smear_van_cittert_estimate(
+            [7].as_ptr(), 1, 1, 1, 1, estimate.as_mut_ptr(), 1, 0.0, 3, 1, 1.0, 0, 0, room.as_mut_ptr(), 3,
+            &mut direction,
+        )
+    };
+    assert_eq!((refusal, estimate), (0, [7]));
+    let (mut swings, mut length, mut measured) = ([Swing::default()], 0, 0.0);
+    let refusal = unsafe {
+        smear_restore(
+            [7].as_ptr(), 1, 1, 1, 1, out.as_mut_ptr(), 1, 1, 1, 1, 8, 24, 3, 1.0, 0, 0, room.as_mut_ptr(), 3,
+            swings.as_mut_ptr(), 1, &mut direction, &mut length, &mut measured,
+        )
+    };
+    assert_eq!(refusal, 11);
+    let (mut text, mut written) = ([0; 16], 0);
+    unsafe { smear_run([0; 32].as_ptr(), 32, [7].as_ptr(), 1, text.as_mut_ptr(), 16, &mut written) };
+    assert_eq!(&text[..written], b"refused 13\n");
+}

@@ -22,6 +22,7 @@ class Refused(Exception):
     def __init__(self, number, reason):
         super().__init__(f"refused {number}: {reason}")
         self.number = number
+        self.reason = reason
 
 
 @dataclass(frozen=True)

@@ -1,4 +1,5 @@
 //! ns per pixel (and iteration, where there are some) of the proved library and of the Rust original, and their ratio.
+//! The sheet's is per record, and beside it stands the oracle's plain restatement: the original has no such call.
 //! Each row is the least of several rounds in which the two take turns. Buffers are warm and not cleared between runs.
 //! Time is that of the thread, so that of other work on the machine only what it does to the caches counts.
 
@@ -8,12 +9,18 @@ mod ffi;
 #[allow(dead_code)]
 #[path = "../../oracle/src/random.rs"]
 mod random;
+#[allow(dead_code)]
+#[path = "../../oracle/src/record.rs"]
+mod record;
+#[path = "../../oracle/src/sheet.rs"]
+mod sheet;
 
 use ffi::*;
 use qr_lab_image::{Gray8View, Gray8ViewMut};
 use qr_lab_imgproc::deblur::{self, DirectionalUnsharpConfig, LineBorderMode, VanCittertConfig};
 use qr_lab_imgproc::{blur, sharpen};
 use random::Random;
+use sheet::{MOST_RECORDS, NUMBERS};
 use std::hint::black_box;
 
 const SIDE: usize = 1024;
@@ -130,6 +137,7 @@ fn main() {
     lengths(&only, &pictures);
     restorations(&only, data, &mut dst, &mut other);
     whole_jobs(&only, data, &mut dst, &mut other);
+    sheets(&only);
 }
 
 const DIRECTIONS: [(&str, f64); 4] = [("Horizontal", 0.0), ("DownRight", 0.75), ("Vertical", 1.5), ("DownLeft", 2.25)];
@@ -258,4 +266,23 @@ fn whole_jobs(only: &str, data: &[u8], dst: &mut [u8], other: &mut [u8]) {
             },
         );
     }
+}
+
+/// The sheet over the most records that it takes, of all filters and directions in no order.
+fn sheets(only: &str) {
+    let mut random = Random::new(1);
+    let records: Vec<u8> = (0..MOST_RECORDS).flat_map(|_| record::listed(&mut random)).collect();
+    row(
+        only,
+        "sheet, ns a record, beside a restatement",
+        MOST_RECORDS,
+        || unsafe {
+            let (mut numbers, mut index) = ([0; NUMBERS], 0);
+            smear_summarize(records.as_ptr(), records.len(), numbers.as_mut_ptr(), NUMBERS, &mut index);
+            black_box(numbers);
+        },
+        || {
+            black_box(sheet::sheet(black_box(&records))).unwrap();
+        },
+    );
 }

@@ -42,6 +42,13 @@ pub enum ImgProcError {
     LengthTooLarge,
 }
 
+/// Refusal 13: a record that has no place on a sheet.
+#[derive(Clone, Copy, Debug, PartialEq, Eq)]
+pub struct FaultyRecord {
+    /// Which record of the file it is, counted from 0. None before it is faulty.
+    pub index: usize,
+}
+
 /// What a call answers.
 pub type ImgProcResult<T> = Result<T, ImgProcError>;
 
@@ -77,9 +84,16 @@ impl fmt::Display for ImgProcError {
     }
 }
 
+impl fmt::Display for FaultyRecord {
+    fn fmt(&self, f: &mut fmt::Formatter<'_>) -> fmt::Result {
+        write!(f, "record {}, counted from 0, has no place on a sheet (refusal 13)", self.index)
+    }
+}
+
 impl Error for LumaError {}
 impl Error for ImageError {}
 impl Error for ImgProcError {}
+impl Error for FaultyRecord {}
 
 impl From<LumaError> for ImageError {
     fn from(value: LumaError) -> Self {

@@ -130,3 +130,11 @@ pub fn restore(
     };
     (refusal, (direction, blur_length, estimate))
 }
+
+/// The refusal, and the sheet's numbers, or with refusal 13 the index of the faulty record.
+pub fn summarize(records: &[u8]) -> (u8, [u64; 21], usize) {
+    let (mut sheet, mut index) = ([0; 21], 0);
+    let refusal =
+        unsafe { raw::smear_summarize(records.as_ptr(), records.len(), sheet.as_mut_ptr(), sheet.len(), &mut index) };
+    (refusal, sheet, index)
+}

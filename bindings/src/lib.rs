@@ -10,8 +10,8 @@
 //! | `qr_lab_imgproc::{blur, deblur, sharpen}` | `smear::{blur, deblur, sharpen}` |
 //! | `qr_lab_imgproc::{ImgProcError, ImgProcResult}` | `smear::{ImgProcError, ImgProcResult}` |
 //!
-//! Added are [`job::restore`] and [`deblur::van_cittert_estimate_into`]. Sides of more than 1,024 pixels and more than
-//! 22 iterations are refused.
+//! Added are [`job::restore`], [`deblur::van_cittert_estimate_into`] and [`summary::summarize`]. Sides of more than
+//! 1,024 pixels and more than 22 iterations are refused.
 
 #![deny(unsafe_code)]
 #![warn(missing_docs)]
@@ -25,7 +25,8 @@ pub mod job;
 #[allow(dead_code)] // all that the header declares
 mod raw;
 pub mod sharpen;
+pub mod summary;
 mod view;
 
-pub use error::{ImageError, ImgProcError, ImgProcResult, LumaError};
+pub use error::{FaultyRecord, ImageError, ImgProcError, ImgProcResult, LumaError};
 pub use view::{Gray8View, Gray8ViewMut, Size};

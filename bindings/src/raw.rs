@@ -63,4 +63,8 @@ extern "C" {
         job: *const u8, job_len: usize, picture: *const u8, picture_len: usize,
         out: *mut u8, out_len: usize, written: *mut usize,
     ) -> u8;
+
+    pub fn smear_summarize(
+        records: *const u8, records_len: usize, sheet: *mut u64, sheet_len: usize, index: *mut usize,
+    ) -> u8;
 }

@@ -1,4 +1,4 @@
-//! Document 01's cases, through the crate.
+//! The documents' cases, through the crate.
 
 use smear::blur::{
     estimate_line_direction, estimate_line_length, estimate_line_length_with, LineLengthConfig, RasterDirection4,
@@ -9,6 +9,7 @@ use smear::deblur::{
 };
 use smear::job::{restore, JobConfig, JobWorkspace};
 use smear::sharpen::{fixed_binomial_unsharp_into, SharpenWorkspace};
+use smear::summary::{summarize, DirectionSummary, RecordSummary};
 use smear::{Gray8View, Gray8ViewMut, ImgProcError};
 
 const ROW: [u8; 5] = [10, 10, 40, 10, 10];
@@ -175,4 +176,45 @@ fn views() {
     view.row_mut(0)[1] = 98;
     assert_eq!((view.get(2, 3), view.row(0), view.size()), (99, &[0, 98, 2][..], view.as_view().size()));
     assert_eq!((bytes[17], bytes[1], bytes[3]), (99, 98, 3));
+}
+
+#[test]
+fn the_sheet_over_some_results() {
+    // pictures of 5 by 1: restorations of lengths 3 and 5, a line unsharp of length 3 and gain 1.5, a binomial
+    let three = [&[5, 0, 1, 0, 0, 0, 0, 1, 3, 0, 1, 0, 0, 0, 1, 0][..], &[0; 16]].concat();
+    let five = [&[5, 0, 1, 0, 0, 0, 0, 1, 5, 0, 1, 0, 0, 0, 1, 0][..], &[0; 16]].concat();
+    let unsharp = [&[5, 0, 1, 0, 0, 0, 0, 2, 3, 0, 0, 0, 0, 128, 1, 0][..], &[0; 16]].concat();
+    let binomial = [&[5, 0, 1, 0, 0, 0, 0, 3][..], &[0; 24]].concat();
+    // and a Vertical restoration of length 11 with an estimate of 10.5
+    let vertical = [&[5, 0, 1, 0, 2, 0, 0, 1, 11, 0, 1, 0, 0, 0, 1, 0][..], &[0; 14], &[0x25, 0x40]].concat();
+    let summary = RecordSummary {
+        horizontal: DirectionSummary { count: 3, total: 11, largest: 5, mean: 3, remainder: 2 },
+        vertical: DirectionSummary { count: 1, total: 11, largest: 11, mean: 11, remainder: 0 },
+        binomials: 1,
+        ..RecordSummary::default()
+    };
+    assert_eq!(summarize(&[&three[..], &five, &unsharp, &binomial, &vertical].concat()), Ok(summary));
+    assert_eq!(summarize(&[&vertical[..], &binomial, &five, &three, &unsharp].concat()), Ok(summary));
+}
+
+#[test]
+fn a_sheet_has_each_direction_in_its_place() {
+    // DownRight once, Vertical twice, DownLeft three times; their lengths are 3, 5 and 7
+    let record =
+        |direction: u8, length: u8| [&[5, 0, 1, 0, direction, 0, 0, 1, length, 0, 1, 0][..], &[0; 20]].concat();
+    let records = [record(3, 7), record(1, 3), record(2, 5), record(3, 7), record(2, 5), record(3, 7)].concat();
+    let summary = RecordSummary {
+        down_right: DirectionSummary { count: 1, total: 3, largest: 3, mean: 3, remainder: 0 },
+        vertical: DirectionSummary { count: 2, total: 10, largest: 5, mean: 5, remainder: 0 },
+        down_left: DirectionSummary { count: 3, total: 21, largest: 7, mean: 7, remainder: 0 },
+        ..RecordSummary::default()
+    };
+    assert_eq!(summarize(&records), Ok(summary));
+}
+
+#[test]
+fn the_sheet_over_no_record() {
+    let none = DirectionSummary { count: 0, total: 0, largest: 0, mean: 0, remainder: 0 };
+    let summary = RecordSummary { horizontal: none, down_right: none, vertical: none, down_left: none, binomials: 0 };
+    assert_eq!(summarize(&[]), Ok(summary));
 }

@@ -1,5 +1,9 @@
 //! Each refusal at both sides of its limit, and that none changes a destination.
 
+#[allow(dead_code)]
+#[path = "../src/raw.rs"]
+mod raw;
+
 use smear::blur::{estimate_line_length_with, LineLengthConfig, RasterDirection4};
 use smear::deblur::{
     directional_unsharp_line_into, van_cittert_estimate_into, van_cittert_line_into, DeblurWorkspace,
@@ -7,7 +11,8 @@ use smear::deblur::{
 };
 use smear::job::{restore, JobConfig, JobWorkspace};
 use smear::sharpen::{fixed_binomial_unsharp_into, SharpenWorkspace};
-use smear::{Gray8View, Gray8ViewMut, ImgProcError, ImgProcResult, LumaError};
+use smear::summary::summarize;
+use smear::{FaultyRecord, Gray8View, Gray8ViewMut, ImgProcError, ImgProcResult, LumaError};
 
 const BYTES: [u8; 5] = [10, 10, 40, 10, 10];
 
@@ -203,4 +208,88 @@ fn a_length_beyond_the_picture() {
             && answer.blur_length as f64 >= length
             && (answer.blur_length as f64) < length + 2.0
     );
+}
+
+/// A restoration of a 5 by 1 picture: length 3, one iteration, relaxation 1.
+const RECORD: [u8; 32] =
+    [5, 0, 1, 0, 0, 0, 0, 1, 3, 0, 1, 0, 0, 0, 1, 0, 0, 0, 0, 0, 0, 0, 0, 0, 0, 0, 0, 0, 0, 0, 0, 0];
+
+/// The record with another byte at a place.
+fn changed(place: usize, byte: u8) -> [u8; 32] {
+    let mut record = RECORD;
+    record[place] = byte;
+    record
+}
+
+/// The record has no place on a sheet, wherever it stands; a later fault does not matter.
+fn faulty(record: [u8; 32]) {
+    for index in [0, 1, 5] {
+        let file = [&RECORD.repeat(index)[..], &record].concat();
+        assert_eq!(summarize(&file), Err(FaultyRecord { index }), "{record:?}");
+        let file = [&file[..], &RECORD, &[0; 32], &[0; 9]].concat();
+        assert_eq!(summarize(&file), Err(FaultyRecord { index }), "{record:?}");
+    }
+}
+
+#[test]
+fn records_that_do_not_read() {
+    for (place, byte) in [(0, 0), (1, 4), (2, 0), (4, 4), (5, 3), (6, 1), (7, 0), (7, 3), (7, 4)] {
+        faulty(changed(place, byte));
+    }
+    // an estimate of -0.0 is the last
+    for (place, byte) in [(8, 2), (8, 4), (8, 13), (10, 0), (10, 23), (12, 1), (31, 128)] {
+        faulty(changed(place, byte));
+    }
+    faulty([0; 32]);
+}
+
+#[test]
+fn records_without_a_length() {
+    let whole_job = changed(8, 0);
+    faulty(whole_job);
+    let mut unsharp = whole_job;
+    (unsharp[7], unsharp[10]) = (2, 0);
+    faulty(unsharp);
+}
+
+#[test]
+fn a_last_record_that_is_too_short() {
+    for index in [0, 1, 3] {
+        for length in 1..32 {
+            let file = [&RECORD.repeat(index)[..], &RECORD[..length]].concat();
+            assert_eq!(summarize(&file), Err(FaultyRecord { index }), "{length} bytes");
+        }
+        assert!(summarize(&RECORD.repeat(index)).is_ok());
+    }
+}
+
+#[test]
+fn words_for_a_faulty_record() {
+    let words = FaultyRecord { index: 7 }.to_string();
+    assert_eq!(words, "record 7, counted from 0, has no place on a sheet (refusal 13)");
+}
+
+/// The C call with room for so many numbers: what it returns, and what then stands in the room and in the index.
+fn summarized(records: &[u8], room: usize) -> (u8, Vec<u64>, usize) {
+    let (mut sheet, mut index) = (vec![7; room], 77);
+    let refusal =
+        unsafe { raw::smear_summarize(records.as_ptr(), records.len(), sheet.as_mut_ptr(), room, &mut index) };
+    (refusal, sheet, index)
+}
+
+#[test]
+fn room_for_a_sheet_in_c() {
+    let good = RECORD.repeat(2);
+    let faulty = [RECORD, changed(7, 0), RECORD].concat();
+    let numbers = [&[2, 6, 3, 3, 0][..], &[0; 16]].concat();
+    for room in [0, 1, 20] {
+        // too little room is refused before a faulty record
+        assert_eq!(summarized(&good, room), (10, vec![7; room], 77));
+        assert_eq!(summarized(&faulty, room), (10, vec![7; room], 77));
+    }
+    for room in [21, 22, 30] {
+        assert_eq!(summarized(&good, room), (0, [&numbers[..], &vec![7; room - 21]].concat(), 77));
+        // the index is the one thing that a refusal writes
+        assert_eq!(summarized(&faulty, room), (13, vec![7; room], 1));
+    }
 }

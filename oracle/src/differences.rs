@@ -3,7 +3,8 @@
 //! smallest-outside, smallest-no-row`), and `bindings/tests` has what the crate for Rust does.
 
 use crate::ffi::{
-    smear_estimate_line_direction, smear_restore, smear_run, smear_van_cittert_estimate, smear_van_cittert_line, Swing,
+    smear_estimate_line_direction, smear_restore, smear_run, smear_summarize, smear_van_cittert_estimate,
+    smear_van_cittert_line, Swing,
 };
 use qr_lab_image::{Gray8View, Gray8ViewMut, LumaError};
 use qr_lab_imgproc::blur::{estimate_line_direction, DirectionEstimate, RasterDirection4};
@@ -11,7 +12,7 @@ use qr_lab_imgproc::deblur::{van_cittert_line_into, LineBorderMode, VanCittertCo
 use qr_lab_imgproc::ImgProcError;
 use std::panic::{catch_unwind, set_hook, take_hook, AssertUnwindSafe};
 
-const ROWS: [(&str, fn()); 9] = [
+const ROWS: [(&str, fn()); 10] = [
     ("a picture of more than 1,024 pixels a side", sides),
     ("a layout that is refused", layout),
     ("more than 22 iterations", iterations),
@@ -21,6 +22,7 @@ const ROWS: [(&str, fn()); 9] = [
     ("direction from a picture", direction),
     ("a place outside a view", outside),
     ("the estimate call, the whole job, records and the program", added),
+    ("the round sheet", round_sheet),
 ];
 
 /// Ends with a panic where a row is not as docs/DIFFERENCES.md has it.
@@ -165,4 +167,14 @@ fn added() {
     let (mut text, mut written) = ([0; 16], 0);
     unsafe { smear_run([0; 32].as_ptr(), 32, [7].as_ptr(), 1, text.as_mut_ptr(), 16, &mut written) };
     assert_eq!(&text[..written], b"refused 13\n");
+}
+
+fn round_sheet() {
+    let summarized = |records: &[u8]| {
+        let (mut sheet, mut index) = ([1; 21], 1);
+        let refusal = unsafe { smear_summarize(records.as_ptr(), records.len(), sheet.as_mut_ptr(), 21, &mut index) };
+        (refusal, sheet, index)
+    };
+    assert_eq!(summarized(&[]), (0, [0; 21], 1));
+    assert_eq!(summarized(&[7]), (13, [1; 21], 0));
 }

@@ -1,6 +1,6 @@
 //! Compares the proved library with the Rust original: the same inputs, from a seeded generator, through the C
-//! interface. Ends with status 1 at the first difference, which it prints as small as it can make it; intended ones are
-//! shown first (`differences`).
+//! interface. The sheet, which the original has not, is compared with a plain restatement (`sheet`). Ends with status 1
+//! at the first difference, which it prints as small as it can make it; intended ones are shown first (`differences`).
 
 mod angle;
 mod binomial;
@@ -16,7 +16,10 @@ mod picture;
 mod program;
 mod random;
 mod reader;
+mod record;
 mod restoration;
+mod sheet;
+mod summarize;
 mod vectors;
 
 use case::Tally;
@@ -32,7 +35,7 @@ const USAGE: &str = "usage: oracle [--seed N] [--count N] [--only CALL]
 
 type Compare = fn(&mut Random, usize, &mut Tally);
 
-const CALLS: [(&str, Compare); 14] = [
+const CALLS: [(&str, Compare); 18] = [
     ("from_angle", angle::compare),
     ("estimate_line_direction", direction::compare),
     ("estimate_line_length", length::compare),
@@ -47,6 +50,10 @@ const CALLS: [(&str, Compare); 14] = [
     ("smear_run: random bytes", program::noise),
     ("smear_run: short pictures", program::pictures),
     ("smear_run: room", program::room),
+    ("summarize: files", summarize::files),
+    ("summarize: changed bytes", summarize::changes),
+    ("summarize: limits", summarize::limits),
+    ("summarize: reordered", summarize::reordered),
 ];
 
 fn usage() -> ! {

@@ -6,6 +6,7 @@ use crate::ffi::smear_run;
 use crate::picture::{size, Picture};
 use crate::random::Random;
 use crate::reader::printed;
+use crate::record::job;
 
 #[derive(Clone, Debug)]
 struct Run {
@@ -89,45 +90,6 @@ fn tight(random: &mut Random, width: usize, height: usize, surplus: usize) -> Ve
     let mut out: Vec<u8> =
         (0..height).flat_map(|y| picture.data[y * picture.stride..][..width].iter().copied()).collect();
     out.extend((0..surplus).map(|_| random.below(256) as u8));
-    out
-}
-
-/// Finite angles of every kind: the four axes, -0.0, any in a few turns, any at all.
-fn angle(random: &mut Random) -> f64 {
-    let any = f64::from_bits(random.bits());
-    match random.below(8) {
-        0 => -0.0,
-        1 => (random.unit() - 0.5) * 20.0,
-        2 if any.is_finite() => any,
-        k => [0.0, 0.75, 1.5, 2.25][k as usize % 4],
-    }
-}
-
-/// A record that is a job, of every filter and border.
-fn job(random: &mut Random, width: usize, height: usize) -> Vec<u8> {
-    let filter = [1, 1, 1, 2, 2, 3][random.below(6) as usize];
-    let whole = filter == 1 && random.below(2) == 0;
-    let mut out = vec![0; 32];
-    out[0..2].copy_from_slice(&(width as u16).to_le_bytes());
-    out[2..4].copy_from_slice(&(height as u16).to_le_bytes());
-    out[7] = filter;
-    if filter == 3 {
-        return out;
-    }
-    out[5] = random.below(3) as u8;
-    out[6] = if out[5] == 2 { random.below(256) as u8 } else { 0 };
-    if !whole {
-        let length = 3 + 2 * random.below(width.max(height) as u64) as u16;
-        out[8..10].copy_from_slice(&length.to_le_bytes());
-        out[16..24].copy_from_slice(&angle(random).to_le_bytes());
-    }
-    let limit = if filter == 1 { 65_536 } else { 524_288 };
-    let q = [limit, 65_536, 0, 1, random.below(u64::from(limit) + 1) as u32][random.below(5) as usize];
-    out[12..16].copy_from_slice(&q.to_le_bytes());
-    if filter == 1 {
-        let most = if random.below(10) == 0 { 22 } else { 4 };
-        out[10] = 1 + random.below(most) as u8;
-    }
     out
 }
 

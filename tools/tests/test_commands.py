@@ -1,4 +1,5 @@
-"""The commands from outside, on document 01's cases, and the sample label."""
+"""The commands from outside, on the documents' cases, and the sample label."""
+import json
 import os
 import subprocess
 import tempfile
@@ -7,6 +8,28 @@ import unittest
 TOOLS = os.path.dirname(os.path.dirname(os.path.abspath(__file__)))
 # document 01, "Length": three equal rows
 RAMP = b"P2 10 3 255\n" + 3 * b"0 0 0 50 100 150 200 250 250 250\n"
+# results of pictures of 5 by 1: Horizontal restorations of lengths 3 and 5, a Horizontal line unsharp of length 3,
+# a binomial, and a Vertical restoration of length 11 with estimate 10.5, whose bits are 4025 0000 0000 0000
+RESULTS = [
+    bytes.fromhex("0500 0100 00 00 00 01 0300 0100 00000100" + 16 * "00"),
+    bytes.fromhex("0500 0100 00 00 00 01 0500 0100 00000100" + 16 * "00"),
+    bytes.fromhex("0500 0100 00 00 00 02 0300 0000 00800100" + 16 * "00"),
+    bytes.fromhex("0500 0100 00 00 00 03" + 24 * "00"),
+    bytes.fromhex("0500 0100 02 00 00 01 0B00 0100 00000100 0000000000000000 0000000000002540"),
+]
+WHOLE_JOB = bytes.fromhex("0500 0100 00 00 00 01 0000 0100 00000100" + 16 * "00")
+SHEET = """\
+direction    records total length   largest       mean
+Horizontal         3           11         5      3.667
+DownRight          0            0         0      0.000
+Vertical           1           11        11     11.000
+DownLeft           0            0         0      0.000
+binomial           1
+"""
+
+
+def numbers(count, total, largest, mean, remainder):
+    return {"count": count, "total": total, "largest": largest, "mean": mean, "remainder": remainder}
 
 
 class Commands(unittest.TestCase):
@@ -41,6 +64,44 @@ class Commands(unittest.TestCase):
         many = ["--width", "5", "--height", "1", "--iterations", "23"]
         self.assertIn("refused 9", self.run_tool("record", "make", *many, status=1))
         self.assertIn("no-such-file", self.run_tool("record", "show", "no-such-file", status=1))
+
+    def test_sheet(self):
+        self.file("round.rec", b"".join(RESULTS))
+        self.assertEqual(self.run_tool("record", "sheet", "round.rec"), SHEET)
+        none = numbers(0, 0, 0, 0, 0)
+        horizontal, vertical = numbers(3, 11, 5, 3, 2), numbers(1, 11, 11, 11, 0)
+        directions = {"Horizontal": horizontal, "DownRight": none, "Vertical": vertical, "DownLeft": none}
+        given = json.loads(self.run_tool("record", "sheet", "round.rec", "--json"))
+        self.assertEqual(given, {"directions": directions, "binomials": 1})
+
+    def test_sheet_of_an_empty_file(self):
+        self.file("empty.rec", b"")
+        lines = self.run_tool("record", "sheet", "empty.rec").splitlines()
+        self.assertEqual([line.split()[1:] for line in lines[1:]], 4 * [["0", "0", "0", "0.000"]] + [["0"]])
+
+    def test_what_a_sheet_refuses(self):
+        unread = RESULTS[0][:5] + b"\3" + RESULTS[0][6:]
+        for bad, why in [
+            (RESULTS[0][:31], "it does not read: a record has 32 bytes, not 31\n05 00 01 00 00 00 00 01 03 00"),
+            (unread, "it does not read: border 3 is not in 0..2\n05 00 01 00 00 03 00 01 03 00"),
+            (WHOLE_JOB, "a job without a length has no place on the sheet\njob: the whole job"),
+        ]:
+            # a later fault does not matter
+            for behind in [b"", b"" if len(bad) < 32 else RESULTS[4] + unread + b"\0"]:
+                self.file("round.rec", RESULTS[3] + RESULTS[4] + bad + behind)
+                for options in [[], ["--json"]]:
+                    said = self.run_tool("record", "sheet", "round.rec", *options, status=1)
+                    self.assertIn(f"record: refused 13: record 2, counted from 0: {why}", said)
+        self.assertIn("no-such-file", self.run_tool("record", "sheet", "no-such-file", status=1))
+
+    def test_most_records_of_a_sheet(self):
+        self.file("round.rec", 1_000_000 * RESULTS[4])
+        self.assertIn(
+            "Vertical     1000000     11000000        11     11.000\n", self.run_tool("record", "sheet", "round.rec")
+        )
+        self.file("round.rec", 1_000_001 * RESULTS[4])
+        most = "record 1000000, counted from 0: a sheet takes at most 1,000,000 records\nresult\n"
+        self.assertIn(most, self.run_tool("record", "sheet", "round.rec", status=1))
 
     def test_picture(self):
         self.file("row.pgm", b"P2 5 1 255\n10 10 40 10 10\n")

@@ -1,5 +1,5 @@
--- Document 01's case of the mean along a line, and two of its "Mistakes that tempt", each of which gives something else:
--- the q product floored (`product-floored-differs`), and estimates cut to 0..255 between iterations
+-- Document 01's case of the mean along a line, and two of its "Mistakes that tempt", each of which gives something
+-- else: the q product floored (`product-floored-differs`), and estimates cut to 0..255 between iterations
 -- (`cut-between-differs`).
 use mathlib.Core.Path.{_≡_, refl}
 use mathlib.Core.List.{[], _∷_}

@@ -40,6 +40,12 @@ pub fn max_usize(a: usize, b: usize) -> usize
     if a < b { b } else { a }
 }
 
+pub fn max_u64(a: u64, b: u64) -> u64
+    ensures { λ r. ⌜ r ≡ max a b ⌝ }
+{
+    if b < a { a } else { b }
+}
+
 // The floor of z / d. The machine cuts toward zero: one less where the remainder is negative.
 pub fn floor_div(z: i64, d: i64) -> i64
     requires { ⌜ pos 0 <ℤ d ⌝ }

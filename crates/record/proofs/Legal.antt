@@ -1,4 +1,4 @@
--- What the limits say of fields (`sound`), and which filter fields name (`Named`).
+-- What the limits say of fields (`sound`, `length-most`), and which filter fields name (`Named`).
 use mathlib.Core.Path.{_≡_, sym, _∙_}
 use mathlib.Core.Bool.{Bool, true, false, _&&_, false≢true, and-eq-true-iff}
 use mathlib.Core.Logic.{⊎-elim}
@@ -13,8 +13,9 @@ use Rattle.floats.specs.Factor.{scale, maxRelaxation, maxGain, factorOf}
 use Rattle.raster.specs.Border.{isBorder}
 use Rattle.raster.specs.declared.border.LineBorderMode.the-variants.{Replicate}
 use Rattle.raster.proofs.Codes.{is-border}
-use Rattle.record.specs.Fields.{headLegal, lengthLegal, estimateLegal, lineLegal, iteratedLegal, unmeasured}
-use Rattle.record.specs.Fields.{filterLegal}
+use Rattle.image.specs.Refusal.{maxSide}
+use Rattle.record.specs.Fields.{sideLegal, headLegal, lengthLegal, estimateLegal, lineLegal}
+use Rattle.record.specs.Fields.{iteratedLegal, unmeasured, filterLegal}
 use Rattle.record.specs.Fields.{legal}
 use Rattle.record.specs.Record.{filterFrom}
 use Rattle.record.specs.declared.fields.Fields.{Fields}
@@ -65,6 +66,9 @@ length-least : (width height L : ℕ) → lengthLegal width height L ≡ true �
 length-least width height L h =
     let p = both (eqb (L % 2) 1 && leb 3 L) (leb L (2 * max width height + 1)) h in
     leb-true 3 L (both (eqb (L % 2) 1) (leb 3 L) (p .0) .1)
+
+side-most : (n : ℕ) → sideLegal n ≡ true → n ≤ maxSide
+side-most n h = leb-true n maxSide (both (leb 1 n) (leb n maxSide) h .1)
 
 module _ (f : Fields) where
   line-sound : {k : RecordFilter} → FilterSound k f → lineLegal f ≡ true → Sound k f
@@ -126,6 +130,43 @@ module _ (f : Fields) where
   pub sound : (k : RecordFilter) → legal k f ≡ true → Sound k f
   unfolding legal
   sound k h = filter-sound k (both (headLegal (f .head)) (filterLegal k f) h .1)
+
+  -- no length is above that of the largest side
+  size-most : lengthLegal (f .head .width) (f .head .height) (f .«blur_length») ≡ true → headLegal (f .head) ≡ true
+      → f .«blur_length» ≤ 2 * maxSide + 1
+  size-most h head =
+      let L = f .«blur_length» in
+      let most = 2 * max (f .head .width) (f .head .height) + 1 in
+      let n = leb-true L most (both (eqb (L % 2) 1 && leb 3 L) (leb L most) h .1) in
+      let sides = both (sideLegal (f .head .width)) (sideLegal (f .head .height)) head in
+      let width = side-most (f .head .width) (sides .0) in
+      let height = side-most (f .head .height) (sides .1) in
+      omega (arith, n, width, height)
+
+  filter-length : (k : RecordFilter) → headLegal (f .head) ≡ true → filterLegal k f ≡ true
+      → f .«blur_length» ≤ 2 * maxSide + 1
+  unfolding filterLegal
+  filter-length (WholeJob x) head h =
+      let none = no-measure (both (iteratedLegal f) (unmeasured f) h .1) .blur-length in
+      omega (arith, none)
+  filter-length (Restoration x) head h =
+      size-most (both (iteratedLegal f) (lengthLegal (f .head .width) (f .head .height) (f .«blur_length»)) h .1) head
+  filter-length (Unsharp x) head h =
+      let size = lengthLegal (f .head .width) (f .head .height) (f .«blur_length») in
+      let q = both (lineLegal f && size && eqb (f .iterations) 0) (leb (f .q) (maxGain * scale)) h in
+      let n = both (lineLegal f && size) (eqb (f .iterations) 0) (q .0) in
+      size-most (both (lineLegal f) size (n .0) .1) head
+  filter-length Binomial head h =
+      let zero = unmeasured f && eqb (f .border) 0 && eqb (f .value) 0 in
+      let q = both (zero && eqb (f .iterations) 0) (eqb (f .q) 0) h in
+      let n = both zero (eqb (f .iterations) 0) (q .0) in
+      let v = both (unmeasured f && eqb (f .border) 0) (eqb (f .value) 0) (n .0) in
+      let none = no-measure (both (unmeasured f) (eqb (f .border) 0) (v .0) .0) .blur-length in
+      omega (arith, none)
+
+  pub length-most : (k : RecordFilter) → legal k f ≡ true → f .«blur_length» ≤ 2 * maxSide + 1
+  unfolding legal
+  length-most k h = let p = both (headLegal (f .head)) (filterLegal k f) h in filter-length k (p .0) (p .1)
 
 -- ---- the filter that fields name
 

@@ -1,5 +1,5 @@
--- A record that was read can be written again, with the direction, length and estimate used: `used-written` of a line
--- filter's, `binomial-written`.
+-- A record that was read has a length of at most 2,049 (`read-length`), and can be written again, with the direction,
+-- length and estimate used: `used-written` of a line filter's, `binomial-written`.
 use mathlib.Core.Path.{_≡_, refl, ap, subst}
 use mathlib.Core.Bool.{true, false, _&&_, or-true}
 use mathlib.Core.List.{List}
@@ -18,6 +18,7 @@ use Rattle.raster.specs.Direction.{directionIndex}
 use Rattle.raster.specs.declared.direction.RasterDirection4.{RasterDirection4}
 use Rattle.raster.specs.Border.{isBorder}
 use Rattle.raster.proofs.Codes.{border-from, index-most}
+use Rattle.image.specs.Refusal.{maxSide}
 use Rattle.record.specs.Fields.{decoded, headLegal, lengthLegal, finiteBits, estimateLegal, lineLegal}
 use Rattle.record.specs.Fields.{iteratedLegal}
 use Rattle.record.specs.Fields.{unmeasured, filterLegal, legal}
@@ -29,7 +30,7 @@ use Rattle.record.specs.declared.RecordFilter.the-variants.{WholeJob, Re
 use Rattle.record.specs.declared.Record.{Record}
 use Rattle.record.specs.declared.ReadAnswer.the-variants as answer
 use Rattle.record.proofs.Answer.{checked-legal}
-use Rattle.record.proofs.Legal.{both, sound, named}
+use Rattle.record.proofs.Legal.{both, sound, length-most, named}
 use Rattle.record.proofs.RoundTrip.{Reads, filter-from, fields-record, read-is}
 
 -- ---- the limits of what is used
@@ -155,6 +156,13 @@ module _ (f : Fields) (k : RecordFilter) (h : Reads f k) where
       ap writeNumber (fields-record f k (omega (arith, z .1)) (omega (arith, z .2)) h)
 
 module _ (xs : List ℕ) (r : Record) (reads : readRecord xs ≡ answer.Record r) where
+  pub read-length : r .«blur_length» ≤ 2 * maxSide + 1
+  unfolding recordOf
+  read-length =
+      let p = read-is xs r reads in
+      subst (λ (r : Record). r .«blur_length» ≤ 2 * maxSide + 1) (p .same)
+      (length-most (decoded xs) (r .filter) (p .reads .within))
+
   -- a line filter's record with what was used
   pub used-written : (d : RasterDirection4) (L : ℕ) (x : Float) → filterCode (r .filter) ≤ 2
       → lengthLegal (r .width) (r .height) L ≡ true → estimateLegal (toBits binary64 x) ≡ true

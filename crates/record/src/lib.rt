@@ -30,7 +30,7 @@ pub enum RecordFilter {
 
 impl RecordFilter {
     // The filter's number in a record.
-    fn code(self) -> u8
+    pub fn code(self) -> u8
         ensures { λ r. ⌜ r ≡ filterCode self ⌝ }
     {
         match self {

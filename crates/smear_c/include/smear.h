@@ -3,8 +3,8 @@
  * A picture is a slice of bytes, `src` and `src_len`, with its width, height and stride: pixel (c, r) is byte
  * r * stride + c. What is passed to one call does not overlap.
  * A function returns 0, or the number of the refusal. A refusal changes neither destination nor scratch, except that 11
- * and 12 leave scratch free; no refusal changes an out-parameter. Scratch is `scratch` and `swings`; an accepted call
- * leaves it free.
+ * and 12 leave scratch free, nor an out-parameter, except that 13 of a sheet says by *index which record is at fault.
+ * Scratch is `scratch` and `swings`; an accepted call leaves it free.
  * Directions: 0 Horizontal, 1 DownRight, 2 Vertical, 3 DownLeft.
  */
 #ifndef SMEAR_H
@@ -99,6 +99,16 @@ uint8_t smear_restore(
 uint8_t smear_run(
     const uint8_t *job, size_t job_len, const uint8_t *picture, size_t picture_len,
     uint8_t *out, size_t out_len, size_t *written);
+
+/* The round sheet over `records`, 32-byte records of results that stand back to back. Into the first 21 elements of
+ * `sheet` go, for each direction, five numbers of the blur lengths of its restorations and line unsharps: how many,
+ * their total, the largest, and the mean's whole part and remainder over how many (all 0 for none); then the number of
+ * binomials. What stands behind them in `sheet` is not changed, nor is *index.
+ * Refusals: 10 of a `sheet` of fewer than 21 elements; 13 of a record that does not read, one of length 0 whose filter
+ * is 1 or 2 (so a whole job's), a last part of fewer than 32 bytes, and whatever stands at index 1,000,000. Then *index
+ * is the first such record's, from 0, and nothing else is changed. */
+uint8_t smear_summarize(
+    const uint8_t *records, size_t records_len, uint64_t *sheet, size_t sheet_len, size_t *index);
 
 #ifdef __cplusplus
 }

@@ -1,4 +1,5 @@
 -- The laws of `smear_c`, by subject.
+pub mod Conditions
 pub mod Determined
 pub mod Outs
 pub mod RestorationDecision

@@ -1,10 +1,12 @@
 -- What each call returns and leaves in its out-parameters, by the answer.
 use mathlib.Core.Path.{_≡_, refl, sym, ap, _∙_}
 use mathlib.Core.List.{List}
-use Prim.Native.Nat.{ℕ}
+use Prim.Native.Nat.{ℕ, _≤_, _<_}
 use native.Mathlib.Omega.{arith}
+use borrow.Author.Tests.{lt-ltb, le-ltb}
 use lib.IntN.{ℤ}
 use lib.ListN.{length}
+use lib.Seq.{sets, sets-eq}
 use Rattle.image.specs.Call.{Decision, accepts, refuses, numberOf, outsOnly, withOuts, Outcome, Returns}
 use Rattle.image.proofs.Call.{accepts-not-refuses, outcome-accepted, outcome-refused}
 use Rattle.tensor.specs.declared.direction.DirectionAnswer.{DirectionAnswer}
@@ -14,11 +16,16 @@ use Rattle.tensor.specs.Tensor.{directionAnswer}
 use Rattle.raster.specs.Direction.{directionIndex}
 use Rattle.blur.specs.Length.{lengthAnswer}
 use Rattle.blur.specs.declared.length.LineLength.{LineLength}
+use Rattle.summary.specs.File.{summarized}
+use Rattle.summary.specs.declared.RecordSummary.{RecordSummary}
+use Rattle.summary.specs.declared.SummaryAnswer.the-variants.{Summary}
+use Rattle.summary.specs.declared.SummaryAnswer.the-variants as sheet
 use Rattle.smear_run.specs.Output.{runAnswer, runWrites}
 use Rattle.smear_run.specs.declared.RunAnswer.{RunAnswer}
 use Rattle.smear_run.specs.declared.RunAnswer.the-variants as run
 use Rattle.smear_c.specs.Direction.{DirectionOuts, directionOuts}
 use Rattle.smear_c.specs.Length.{lengthDecided}
+use Rattle.smear_c.specs.Sheet.{sheetLength, sheetNumbers, leaves, summarizedC}
 
 -- ---- any call
 
@@ -100,3 +107,18 @@ module _ {old new : List ℕ} (before : ℕ) (decision : Decision (List ℕ)) {a
             dst-kept = λ m z. rw (o .dst-kept m z) refl;
             scratch-kept = λ _ _ _. refl;
           }
+
+-- ---- the sheet
+
+module _ (xs old : List ℕ) (before : ℕ) where
+  pub no-room : length old < sheetLength → summarizedC xs old before ≡ leaves 10 old before
+  no-room h = rw (lt-ltb (length old) sheetLength h) refl
+
+  module _ (room : sheetLength ≤ length old) where
+    pub sheet-given : (s : RecordSummary) {new : List ℕ} → summarized xs ≡ Summary s
+        → new ≡ sets old 0 (sheetNumbers s) → leaves 0 new before ≡ summarizedC xs old before
+    sheet-given s e n = rw (le-ltb (length old) sheetLength room, e, n, sets-eq (sheetNumbers s) old 0 room) refl
+
+    pub fault-given : (number i : ℕ) → summarized xs ≡ sheet.Refused number i
+        → leaves number old i ≡ summarizedC xs old before
+    fault-given number i e = rw (le-ltb (length old) sheetLength room, e) refl

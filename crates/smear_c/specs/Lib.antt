@@ -5,3 +5,4 @@ pub mod Sharpening
 pub mod Length
 pub mod WholeJob
 pub mod Program
+pub mod Sheet

@@ -5,4 +5,5 @@ pub mod length;
 pub mod program;
 pub mod restoration;
 pub mod sharpening;
+pub mod sheet;
 pub mod whole_job;

@@ -1,12 +1,12 @@
--- Document 01's cases that are marked ★: all of them, in the document's order, are one list, and one theorem says that
--- each has the value beside it. What a case has is told by the definitions that the calls' contracts cite, and the two
--- are compared by `≡` alone: no test of our own stands between.
+-- Document 01's cases that are marked ★, all of them in the document's order, and then the examples of document 02's
+-- requests, are one list, and one theorem says that each has the value beside it. What a case has is told by the
+-- definitions that the calls' contracts cite, and the two are compared by `≡` alone: no test of our own stands between.
 use Prim.Native.Nat.{ℕ, zero, suc}
 use mathlib.Core.List.{List, [], _∷_, _++_, map}
 use mathlib.Core.Path.{_≡_, refl}
 use lib.IntN.{ℤ, pos, negsuc}
 use lib.Ieee.{binary64, ofBits, ofInt, add, sub, mul, div, rem, le, lt, eq}
-use lib.ListN.{length, getD}
+use lib.ListN.{length, getD, take, replicate}
 use Rattle.numbers.specs.Scalar.{clampByte}
 use Rattle.numbers.specs.Sum.{total, count}
 use Rattle.floats.specs.Factor.{quantized}
@@ -42,6 +42,13 @@ use Rattle.sharpen.specs.Call.{binomialRefusal}
 use Rattle.job.specs.Job.{layout, jobOf, jobRefusal, pictureDirection, plan, jobAnswer}
 use Rattle.job.specs.declared.JobAnswer.{JobAnswer}
 use Rattle.job.specs.declared.JobAnswer.the-variants.{Refused}
+use Rattle.record.specs.Bytes.{littleEndian}
+use Rattle.record.specs.Fields.{decoded, legal}
+use Rattle.record.specs.Record.{readRecord, recordOf}
+use Rattle.summary.specs.File.{summarized}
+use Rattle.summary.specs.declared.DirectionSummary.{DirectionSummary}
+use Rattle.summary.specs.declared.SummaryAnswer.{SummaryAnswer}
+use Rattle.summary.specs.declared.SummaryAnswer.the-variants as summary
 
 -- ---- the document's pictures, without padding
 
@@ -56,6 +63,27 @@ three-ramps = ramp ++ ramp ++ ramp
 -- "Row 10 10 40 10 10"
 row : List ℕ
 row = 10 ∷ 10 ∷ 40 ∷ 10 ∷ 10 ∷ []
+
+-- ---- records on 5 by 1, by their bytes
+
+-- a restoration of length L along Horizontal, one iteration, q 65,536
+restored-over : ℕ → List ℕ
+restored-over L = 5 ∷ 0 ∷ 1 ∷ 0 ∷ 0 ∷ 0 ∷ 0 ∷ 1 ∷ L ∷ 0 ∷ 1 ∷ 0 ∷ 0 ∷ 0 ∷ 1 ∷ 0 ∷ replicate 16 0
+
+-- a line unsharp of length 3, gain 1.5
+sharpened-over-3 : List ℕ
+sharpened-over-3 = 5 ∷ 0 ∷ 1 ∷ 0 ∷ 0 ∷ 0 ∷ 0 ∷ 2 ∷ 3 ∷ 0 ∷ 0 ∷ 0 ∷ 0 ∷ 128 ∷ 1 ∷ 0 ∷ replicate 16 0
+
+binomial : List ℕ
+binomial = 5 ∷ 0 ∷ 1 ∷ 0 ∷ 0 ∷ 0 ∷ 0 ∷ 3 ∷ replicate 24 0
+
+-- a restoration of length 11 along Vertical, estimate 10.5
+vertical-over-11 : List ℕ
+vertical-over-11 =
+    5 ∷ 0 ∷ 1 ∷ 0 ∷ 2 ∷ 0 ∷ 0 ∷ 1 ∷ 11 ∷ 0 ∷ 1 ∷ 0 ∷ 0 ∷ 0 ∷ 1 ∷ 0 ∷ replicate 14 0 ++ (0x25 ∷ 0x40 ∷ [])
+
+none : DirectionSummary
+none = record { count = 0; total = 0; largest = 0; mean = 0; remainder = 0 }
 
 -- ---- what a case asks, and what it gives. A double is given by its bits.
 
@@ -77,6 +105,8 @@ data Question : Type 0 where
   job-on-ramps : ℕ → Question
   -- "Binomial unsharp": the row
   row-binomial : Question
+  -- document 02, K1: the sheet of a file
+  sheet-of : List ℕ → Question
 
 data Answer : Type 0 where
   direction : RasterDirection4 → Answer
@@ -87,6 +117,7 @@ data Answer : Type 0 where
   pixels : List ℕ → Answer
   refused : ℕ → Answer
   planned : JobAnswer → Answer
+  sheet : SummaryAnswer → Answer
 
 -- the row's pixels after a call, or the call's refusal
 written : ℕ → (ℕ → ℕ → ℕ) → Answer
@@ -140,6 +171,7 @@ value (job-on-ramps minimum) =
     })
     90 30)))
 value row-binomial = written (binomialRefusal 5 5 1 5 5 5 1 5 5) (unsharp (pixel row 5) 5 1)
+value (sheet-of file) = sheet (summarized file)
 
 -- ---- the list
 
@@ -152,7 +184,7 @@ _gives_ : Question → Answer → Case
 q gives a = record { asked = q; must-be = a }
 
 cases : List Case
-unfolding _gives_
+unfolding _gives_ restored-over sharpened-over-3 binomial vertical-over-11 none
 cases =
     -- "0.39 gives Horizontal★, 0.40 DownRight★, .. NaN Horizontal★"
     direction-of 0x3fd8_f5c2_8f5c_28f6 gives direction Horizontal
@@ -176,6 +208,24 @@ cases =
     ∷ job-on-ramps 3 gives planned (Refused 11)
     -- "The row above gives 8 2 59 2 8★."
     ∷ row-binomial gives pixels (8 ∷ 2 ∷ 59 ∷ 2 ∷ 8 ∷ [])
+    -- K1: "Horizontal (3, 11, 5, 3, 2), Vertical (1, 11, 11, 11, 0), 1 binomial"; 31 bytes; an empty file
+    ∷ sheet-of (restored-over 3 ++ restored-over 5 ++ sharpened-over-3 ++ binomial ++ vertical-over-11)
+    gives sheet (summary.Summary (record {
+      horizontal = record { count = 3; total = 11; largest = 5; mean = 3; remainder = 2 };
+      «down_right» = none;
+      vertical = record { count = 1; total = 11; largest = 11; mean = 11; remainder = 0 };
+      «down_left» = none;
+      binomials = 1;
+    }))
+    ∷ sheet-of (take 31 binomial) gives sheet (summary.Refused 13 0)
+    ∷ sheet-of []
+    gives sheet (summary.Summary (record {
+      horizontal = none;
+      «down_right» = none;
+      vertical = none;
+      «down_left» = none;
+      binomials = 0;
+    }))
     ∷ []
 
 -- ---- the theorem
@@ -186,5 +236,5 @@ unfolding cases value ofBits ofInt add sub mul div rem le lt eq fromAngle length
     sample total quantized deblur.filterRefusal deblur.blurLengthRefusal deblur.angleRefusal deblur.factorRefusal
     deblur.iterationsRefusal estimate estimateOn iteration.after iteration.stepped plan jobRefusal pictureDirection
     estimateOf tensorSums tensorDirection interiorSum rowSum gradientX gradientY binomialRefusal sharper
-    binomialSum tapPlace count
+    binomialSum tapPlace count summarized readRecord recordOf decoded legal littleEndian
 stars = refl

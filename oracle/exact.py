@@ -4,7 +4,7 @@
 Small random jobs go through the C interface (smear_restore, then smear_van_cittert_estimate for every k up to the
 iterations). The exact run is computed here from the document's words alone:
 N(k+1) = S * Nk + q * (L * S^k * B - window sum of Nk). Every estimate and every destination byte must lie within
-demand 3's bounds; the largest error / bound seen is printed for each k.
+demand 3's bounds; the largest error / bound seen is printed for each k. The borders take turns, Wrap among them.
 
 Usage: oracle/exact.py [--seed N] [--count N]     (after rt staticlib smear_c)
 """
@@ -20,6 +20,7 @@ from fractions import Fraction
 ROOT = os.path.dirname(os.path.dirname(os.path.abspath(__file__)))
 STEPS = [(1, 0), (1, 1), (0, 1), (-1, 1)]
 ANGLES = [0.0, 0.75, 1.5, 2.25]
+BORDERS = ["Replicate", "Reflect", "Constant", "Wrap"]
 
 
 class Swing(ctypes.Structure):
@@ -59,6 +60,8 @@ def source_of(p, n, border):
             return 0
         r = p % (2 * n - 2)
         return min(r, 2 * n - 2 - r)
+    if border == 3:
+        return p % n
     return p if 0 <= p < n else None
 
 
@@ -95,7 +98,7 @@ def main():
     args = parser.parse_args()
     rng = random.Random(args.seed)
     lib = library()
-    worst, accepted, refused = {}, 0, {}
+    worst, accepted, refused, by_border = {}, 0, {}, [0, 0, 0, 0]
     while accepted < args.count:
         w, h = rng.randint(3, 14), rng.randint(3, 14)
         bar, axis = rng.randint(2, 5), rng.randrange(4)
@@ -107,7 +110,7 @@ def main():
         )
         iterations = rng.randint(1, 6)
         relaxation = rng.choice([1.0, 1.0, 0.5, 0.1, rng.random(), 65535 / 65536])
-        border, value = rng.randrange(3), rng.randrange(256)
+        border, value = accepted % 4, rng.randrange(256)
         size = w * h
         dst = (ctypes.c_uint8 * size)()
         scratch = (ctypes.c_int32 * (3 * size))()
@@ -124,6 +127,7 @@ def main():
             refused[code] = refused.get(code, 0) + 1
             continue
         accepted += 1
+        by_border[border] += 1
         length, q = blur_length.value, math.floor(Fraction(relaxation) * 65536 + Fraction(1, 2))
         assert length == max(3, math.ceil(estimate.value) | 1), (length, estimate.value)
         exact = exact_run(picture, w, h, STEPS[direction.value], length, q, border, value, iterations)
@@ -149,7 +153,8 @@ def main():
                     assert byte == min(255, max(0, found))
                     if abs(byte - min(Fraction(255), max(Fraction(0), v))) >= bound:
                         sys.exit(f"byte at ({x}, {y}): {byte}, exact {float(v)}")
-    print(f"exact: {accepted} jobs within the bounds; refused {dict(sorted(refused.items()))}")
+    borders = ", ".join(f"{count} {name}" for count, name in zip(by_border, BORDERS))
+    print(f"exact: {accepted} jobs within the bounds ({borders}); refused {dict(sorted(refused.items()))}")
     for (k, one), ratio in sorted(worst.items()):
         print(f"  after {k}{' at relaxation 1' if one else '':17}: largest error / bound {float(ratio):.3f}")
 

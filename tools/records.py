@@ -1,4 +1,5 @@
-"""The 32-byte record of document 01, "The 32-byte record": from options, to and from bytes, and in words."""
+"""The 32-byte record of document 01, "The 32-byte record", with document 02's border (K2): from options, to and from
+bytes, and in words."""
 import math
 import struct
 from dataclasses import dataclass
@@ -8,7 +9,7 @@ from fractions import Fraction
 LAYOUT = struct.Struct("<HHBBBBHHIdd")
 SIZE = LAYOUT.size
 DIRECTIONS = ["Horizontal", "DownRight", "Vertical", "DownLeft"]
-BORDERS = ["replicate", "reflect", "constant"]
+BORDERS = ["replicate", "reflect", "constant", "wrap"]
 RESTORATION, UNSHARP, BINOMIAL = 1, 2, 3
 FILTERS = {"restoration": RESTORATION, "unsharp": UNSHARP, "binomial": BINOMIAL}
 LARGEST_SIDE, MOST_ITERATIONS = 1024, 22
@@ -108,7 +109,7 @@ def line_faults(record):
     if record.direction >= len(DIRECTIONS):
         yield 13, f"direction {record.direction} is not in 0..3"
     if record.border >= len(BORDERS):
-        yield 13, f"border {record.border} is not in 0..2"
+        yield 13, f"border {record.border} is not in 0..3"
     if record.border_value != 0 and record.border != BORDERS.index("constant"):
         yield 13, "a border value stands without the constant border"
     if not is_zero(record.estimate) and not (record.estimate > 0 and math.isfinite(record.estimate)):
@@ -172,7 +173,10 @@ def add_options(parser):
     parser.add_argument("--iterations", type=int, metavar="N", help="restoration: 1 to 22 (default 3)")
     parser.add_argument("--relaxation", type=float, metavar="R", help="restoration: 0 to 1 (default 1)")
     parser.add_argument("--gain", type=float, metavar="G", help="line unsharp: 0 to 8 (default 1.5)")
-    parser.add_argument("--border", choices=BORDERS, help="what lies beyond a line's ends (default replicate)")
+    parser.add_argument(
+        "--border", choices=BORDERS,
+        help="what lies beyond a line's ends (default replicate); wrap, its other end, is for one full turn of a drum",
+    )
     parser.add_argument(
         "--border-value", type=int, metavar="V", help="grey level of the constant border, 0 to 255 (default 0)"
     )

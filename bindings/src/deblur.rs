@@ -15,6 +15,8 @@ pub enum LineBorderMode {
     Reflect,
     /// A value.
     Constant(u8),
+    /// The line again from its other end, as on a drum of which a line is one full turn.
+    Wrap,
 }
 
 impl LineBorderMode {
@@ -24,6 +26,7 @@ impl LineBorderMode {
             Self::Replicate => (0, 0),
             Self::Reflect => (1, 0),
             Self::Constant(value) => (2, value),
+            Self::Wrap => (3, 0),
         }
     }
 }

@@ -10,8 +10,8 @@
 //! | `qr_lab_imgproc::{blur, deblur, sharpen}` | `smear::{blur, deblur, sharpen}` |
 //! | `qr_lab_imgproc::{ImgProcError, ImgProcResult}` | `smear::{ImgProcError, ImgProcResult}` |
 //!
-//! Added are [`job::restore`], [`deblur::van_cittert_estimate_into`] and [`summary::summarize`]. Sides of more than
-//! 1,024 pixels and more than 22 iterations are refused.
+//! Added are [`job::restore`], [`deblur::van_cittert_estimate_into`], the border [`deblur::LineBorderMode::Wrap`] and
+//! [`summary::summarize`]. Sides of more than 1,024 pixels and more than 22 iterations are refused.
 
 #![deny(unsafe_code)]
 #![warn(missing_docs)]

@@ -19,11 +19,19 @@ fn ramp() -> Vec<u8> {
     [0, 0, 0, 50, 100, 150, 200, 250, 250, 250].repeat(3)
 }
 
-fn restored(config: &VanCittertConfig) -> [u8; 5] {
+fn restored(row: &[u8; 5], config: &VanCittertConfig) -> [u8; 5] {
     let mut out = [0; 5];
-    let src = Gray8View::new(&ROW, 5, 1, 5).unwrap();
+    let src = Gray8View::new(row, 5, 1, 5).unwrap();
     let dst = Gray8ViewMut::new(&mut out, 5, 1, 5).unwrap();
     van_cittert_line_into(src, dst, config, &mut DeblurWorkspace::default()).unwrap();
+    out
+}
+
+/// The estimates of a picture without bytes between its rows.
+fn estimates(pixels: &[u8], width: usize, config: &VanCittertConfig) -> Vec<i32> {
+    let mut out = vec![0; pixels.len()];
+    let src = Gray8View::new(pixels, width, pixels.len() / width, width).unwrap();
+    van_cittert_estimate_into(src, &mut out, config, &mut DeblurWorkspace::default()).unwrap();
     out
 }
 
@@ -69,25 +77,48 @@ fn length_of_a_ramp() {
 #[test]
 fn restoration_of_a_row() {
     let config = VanCittertConfig { iterations: 1, ..VanCittertConfig::default() };
-    assert_eq!(restored(&config), [10, 0, 60, 0, 10]);
+    assert_eq!(restored(&ROW, &config), [10, 0, 60, 0, 10]);
     let config = VanCittertConfig { iterations: 2, ..config };
-    assert_eq!(restored(&config), [14, 0, 80, 0, 14]);
-    assert_eq!(restored(&VanCittertConfig { relaxation: -0.0, ..config }), ROW);
+    assert_eq!(restored(&ROW, &config), [14, 0, 80, 0, 14]);
+    assert_eq!(restored(&ROW, &VanCittertConfig { relaxation: -0.0, ..config }), ROW);
 }
 
 #[test]
 fn borders() {
     let at = |border| {
-        let mut out = [0; 4];
         let config = VanCittertConfig { iterations: 1, border, ..VanCittertConfig::default() };
-        let src = Gray8View::new(&[10, 40, 10, 10], 4, 1, 4).unwrap();
-        van_cittert_estimate_into(src, &mut out, &config, &mut DeblurWorkspace::default()).unwrap();
-        out
+        estimates(&[10, 40, 10, 10], 4, &config)
     };
     // the means are m 20 20 n, and each estimate is twice the pixel less its mean
     assert_eq!(at(LineBorderMode::Replicate), [20 - (10 + 10 + 40) / 3, 60, 0, 20 - (10 + 10 + 10) / 3]);
     assert_eq!(at(LineBorderMode::Reflect), [20 - (40 + 10 + 40) / 3, 60, 0, 20 - (10 + 10 + 10) / 3]);
     assert_eq!(at(LineBorderMode::Constant(100)), [20 - (100 + 10 + 40) / 3, 60, 0, 20 - (10 + 10 + 100) / 3]);
+}
+
+/// Document 02, K2, with length 3 or 11 and relaxation 1.
+#[test]
+fn a_row_that_is_one_turn_of_a_drum() {
+    let row = [40, 10, 10, 10, 10];
+    let wrap = VanCittertConfig { iterations: 1, border: LineBorderMode::Wrap, ..VanCittertConfig::default() };
+    assert_eq!(restored(&row, &wrap), [60, 0, 10, 10, 0]);
+    assert_eq!(restored(&row, &VanCittertConfig { blur_length: 11, ..wrap }), [62, 5, 5, 5, 5]);
+    assert_eq!(estimates(&row, 5, &VanCittertConfig { iterations: 2, ..wrap }), [80, -13, 14, 14, -13]);
+}
+
+#[test]
+fn a_diagonal_wraps_onto_itself() {
+    // DownRight the lines are 9 0 3, whose means are all 12 / 3, and 60 30 and 5 6, where a mean of 3 has the other
+    // pixel twice, and 7 and 8 alone
+    let config = VanCittertConfig {
+        theta_radians: 0.75,
+        iterations: 1,
+        border: LineBorderMode::Wrap,
+        ..VanCittertConfig::default()
+    };
+    assert_eq!(
+        estimates(&[9, 60, 7, 5, 0, 30, 8, 6, 3], 3, &config),
+        [18 - 4, 120 - 120 / 3, 7, 10 - 17 / 3, 0 - 4, 60 - 150 / 3, 8, 12 - 16 / 3, 6 - 4]
+    );
 }
 
 #[test]
@@ -180,9 +211,10 @@ fn views() {
 
 #[test]
 fn the_sheet_over_some_results() {
-    // pictures of 5 by 1: restorations of lengths 3 and 5, a line unsharp of length 3 and gain 1.5, a binomial
+    // pictures of 5 by 1: restorations of lengths 3 and, with the border Wrap, 5, a line unsharp of length 3 and gain
+    // 1.5, a binomial
     let three = [&[5, 0, 1, 0, 0, 0, 0, 1, 3, 0, 1, 0, 0, 0, 1, 0][..], &[0; 16]].concat();
-    let five = [&[5, 0, 1, 0, 0, 0, 0, 1, 5, 0, 1, 0, 0, 0, 1, 0][..], &[0; 16]].concat();
+    let five = [&[5, 0, 1, 0, 0, 3, 0, 1, 5, 0, 1, 0, 0, 0, 1, 0][..], &[0; 16]].concat();
     let unsharp = [&[5, 0, 1, 0, 0, 0, 0, 2, 3, 0, 0, 0, 0, 128, 1, 0][..], &[0; 16]].concat();
     let binomial = [&[5, 0, 1, 0, 0, 0, 0, 3][..], &[0; 24]].concat();
     // and a Vertical restoration of length 11 with an estimate of 10.5

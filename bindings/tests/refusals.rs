@@ -233,7 +233,7 @@ fn faulty(record: [u8; 32]) {
 
 #[test]
 fn records_that_do_not_read() {
-    for (place, byte) in [(0, 0), (1, 4), (2, 0), (4, 4), (5, 3), (6, 1), (7, 0), (7, 3), (7, 4)] {
+    for (place, byte) in [(0, 0), (1, 4), (2, 0), (4, 4), (5, 4), (6, 1), (7, 0), (7, 3), (7, 4)] {
         faulty(changed(place, byte));
     }
     // an estimate of -0.0 is the last
@@ -241,6 +241,22 @@ fn records_that_do_not_read() {
         faulty(changed(place, byte));
     }
     faulty([0; 32]);
+}
+
+#[test]
+fn borders_of_records() {
+    // of the four Constant alone, which is 2, has a value
+    for border in 0..=5 {
+        for value in [0, 7] {
+            let mut record = RECORD;
+            (record[5], record[6]) = (border, value);
+            if border == 2 || border <= 3 && value == 0 {
+                assert!(summarize(&record).is_ok(), "{record:?}");
+            } else {
+                faulty(record);
+            }
+        }
+    }
 }
 
 #[test]

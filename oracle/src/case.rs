@@ -1,16 +1,29 @@
 //! One input of one call: it is checked on both sides and, where they differ,
 //! made smaller for as long as they still do.
 
+use crate::settings::Border;
 use std::fmt::{self, Debug, Display};
 
 /// What a comparison found.
 pub enum Verdict {
     Alike,
+    /// Alike with a border that the Rust has not: left out of the runs against it.
+    Wrap,
     /// Both refuse, or the document's number is given where the Rust has no such refusal.
     Refused,
     /// Left out by rule: a tie of direction.
     LeftOut,
     Differs(String),
+}
+
+impl Verdict {
+    /// Alike in a call with this border.
+    pub fn alike(border: Border) -> Self {
+        match border.theirs() {
+            Some(_) => Self::Alike,
+            None => Self::Wrap,
+        }
+    }
 }
 
 pub trait Case: Clone + Debug {
@@ -19,21 +32,23 @@ pub trait Case: Clone + Debug {
     fn smaller(&self) -> Vec<Self>;
 }
 
-/// How many inputs of a call both answered alike, were refused as they must be, and were left out.
+/// How many inputs of a call were answered alike, also with Wrap, were refused as they must be, and were left out.
 pub struct Tally {
     name: &'static str,
     alike: usize,
+    wrap: usize,
     refused: usize,
     left_out: usize,
 }
 
 impl Tally {
     pub fn new(name: &'static str) -> Self {
-        Self { name, alike: 0, refused: 0, left_out: 0 }
+        Self { name, alike: 0, wrap: 0, refused: 0, left_out: 0 }
     }
 
     pub fn add(&mut self, other: &Self) {
         self.alike += other.alike;
+        self.wrap += other.wrap;
         self.refused += other.refused;
         self.left_out += other.left_out;
     }
@@ -42,6 +57,7 @@ impl Tally {
     pub fn check<C: Case>(&mut self, case: C) {
         match case.check() {
             Verdict::Alike => self.alike += 1,
+            Verdict::Wrap => self.wrap += 1,
             Verdict::Refused => self.refused += 1,
             Verdict::LeftOut => self.left_out += 1,
             Verdict::Differs(_) => {
@@ -55,7 +71,8 @@ impl Tally {
 
 impl Display for Tally {
     fn fmt(&self, f: &mut fmt::Formatter<'_>) -> fmt::Result {
-        write!(f, "{:<28} {:>10} {:>10} {:>10}", self.name, self.alike, self.refused, self.left_out)
+        let Self { name, alike, wrap, refused, left_out } = self;
+        write!(f, "{name:<28} {alike:>10} {wrap:>10} {refused:>10} {left_out:>10}")
     }
 }
 

@@ -1,5 +1,5 @@
-//! The program's stored cases: the two files of each,
-//! and what document 01 and the Rust original say that the program prints.
+//! The program's stored cases: the two files of each, and what document 01 and the Rust original say that the program
+//! prints; with the border that the Rust has not (document 02, K2) its pixels are a plain restatement's (`line`).
 
 use crate::reader::printed;
 use std::path::Path;
@@ -126,7 +126,7 @@ fn case(name: &'static str, job: Record, picture: Vec<u8>) -> Stored {
     stored(name, Bytes(job.bytes()), Bytes(picture))
 }
 
-/// A case whose output begins so by document 01's own words.
+/// A case whose output begins so by a document's own words.
 fn stated(case: Stored, words: &[u8]) -> Stored {
     assert_eq!(&case.expected[..words.len()], words, "{}", case.name);
     case
@@ -150,6 +150,21 @@ fn document() -> Vec<Stored> {
         row("unsharp", Record { filter: 2, iterations: 0, q: 98304, ..DOCUMENT }, [10, 0, 70, 0, 10]),
         row("binomial", Record { width: 5, height: 1, filter: 3, ..Record::default() }, [8, 2, 59, 2, 8]),
         stated(case("whole-job-nothing", whole(10, 3), ramps), b"refused 11\n"),
+    ]
+}
+
+/// Document 02, K2, "Drum labels": on the row a window of 3 reaches round an end, one of 11 goes round twice.
+fn wraps() -> Vec<Stored> {
+    let round = Record { border: 3, ..DOCUMENT };
+    let row = |name, job, pixels: [u8; 5]| stated(case(name, job, vec![40, 10, 10, 10, 10]), &pixels);
+    let line = Record { width: 16, height: 12, length: 7, iterations: 4, ..round };
+    vec![
+        row("restoration-row-wrap", round, [60, 0, 10, 10, 0]),
+        row("restoration-row-wrap-twice-round", Record { length: 11, ..round }, [62, 5, 5, 5, 5]),
+        case("restoration-down-right-wrap", Record { angle: 0.75, ..line }, mixed(16, 12)),
+        case("restoration-down-left-wrap", Record { angle: 2.3, length: 31, q: 45875, ..line }, mixed(16, 12)),
+        case("unsharp-vertical-wrap", Record { filter: 2, iterations: 0, angle: 1.6, ..line }, mixed(16, 12)),
+        case("whole-job-wrap", Record { border: 3, ..whole(48, 48) }, smeared(48, true)),
     ]
 }
 
@@ -227,6 +242,8 @@ fn refusals() -> Vec<Stored> {
         record("record-23-iterations", Record { iterations: 23, ..DOCUMENT }),
         record("record-q-65537", Record { q: 65537, ..DOCUMENT }),
         record("record-angle-infinite", Record { angle: f64::INFINITY, ..DOCUMENT }),
+        record("record-border-4", Record { border: 4, ..DOCUMENT }),
+        record("record-wrap-value-7", Record { border: 3, value: 7, ..DOCUMENT }),
         record("record-filter-4", Record { filter: 4, ..DOCUMENT }),
         record("record-whole-job-angle", Record { angle: 0.75, ..whole(5, 1) }),
     ]
@@ -234,7 +251,8 @@ fn refusals() -> Vec<Stored> {
 
 /// Writes a folder for each case: job.rec and picture.raw, unless they are missing, and expected.
 pub fn write(dir: &str) {
-    let cases: Vec<Stored> = [document(), filters(), files(), outputs(), refusals()].into_iter().flatten().collect();
+    let cases: Vec<Stored> =
+        [document(), wraps(), filters(), files(), outputs(), refusals()].into_iter().flatten().collect();
     println!("{} cases of the program written to {dir}", cases.len());
     for case in cases {
         let own = Path::new(dir).join(case.name);

@@ -12,7 +12,7 @@ use qr_lab_imgproc::deblur::{van_cittert_line_into, LineBorderMode, VanCittertCo
 use qr_lab_imgproc::ImgProcError;
 use std::panic::{catch_unwind, set_hook, take_hook, AssertUnwindSafe};
 
-const ROWS: [(&str, fn()); 10] = [
+const ROWS: [(&str, fn()); 11] = [
     ("a picture of more than 1,024 pixels a side", sides),
     ("a layout that is refused", layout),
     ("more than 22 iterations", iterations),
@@ -23,6 +23,7 @@ const ROWS: [(&str, fn()); 10] = [
     ("a place outside a view", outside),
     ("the estimate call, the whole job, records and the program", added),
     ("the round sheet", round_sheet),
+    ("the wrapping border", wrapping),
 ];
 
 /// Ends with a panic where a row is not as docs/DIFFERENCES.md has it.
@@ -84,6 +85,19 @@ fn our_restoration(config: VanCittertConfig, dst_width: usize, scratch: usize) -
             relaxation, 0, 0, room.as_mut_ptr(), scratch, &mut direction,
         )
     }
+}
+
+/// Ours of a row with Wrap: length 3, relaxation 1, one iteration.
+fn our_wrapped_row(row: &[u8]) -> Vec<u8> {
+    let (n, mut out, mut room, mut direction) = (row.len(), vec![0; row.len()], vec![0; 3 * row.len()], 0);
+    let refusal = unsafe {
+        smear_van_cittert_line(
+            row.as_ptr(), n, n, 1, n, out.as_mut_ptr(), n, n, 1, n, 0.0, 3, 1, 1.0, 3, 0, room.as_mut_ptr(), 3 * n,
+            &mut direction,
+        )
+    };
+    assert_eq!(refusal, 0);
+    out
 }
 
 fn sides() {
@@ -177,4 +191,19 @@ fn round_sheet() {
     };
     assert_eq!(summarized(&[]), (0, [0; 21], 1));
     assert_eq!(summarized(&[7]), (13, [1; 21], 0));
+}
+
+fn wrapping() {
+    let theirs = |row: &[u8], border| {
+        their_row(row, VanCittertConfig { iterations: 1, border, ..Default::default() }).unwrap()
+    };
+    let row = [1, 0, 4];
+    assert_eq!(our_wrapped_row(&row), [1, 0, 7]);
+    assert_eq!(theirs(&row, LineBorderMode::Replicate), [2, 0, 6]);
+    assert_eq!(theirs(&row, LineBorderMode::Reflect), [2, 0, 7]);
+    assert!((0..=255).all(|value| theirs(&row, LineBorderMode::Constant(value)) != [1, 0, 7]));
+    // no shorter row shows it
+    for row in [&[4][..], &[1, 4]] {
+        assert_eq!(our_wrapped_row(row), theirs(row, LineBorderMode::Reflect));
+    }
 }

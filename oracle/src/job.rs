@@ -1,14 +1,15 @@
-//! The whole job against the Rust's three calls in a row, with document 01's rounding of the length between them.
+//! The whole job against the Rust's three calls in a row, with document 01's rounding of the length between them. With
+//! the border that the Rust has not a plain restatement stands for the third; the others take no border.
 
 use crate::angle::number;
 use crate::case::{Case, Tally, Verdict};
 use crate::direction::is_tie;
 use crate::ffi::{smear_restore, Swing};
+use crate::line::filtered;
 use crate::picture::{size, Picture};
 use crate::random::Random;
-use qr_lab_image::Gray8ViewMut;
+use crate::settings::{border_number, Border, Settings};
 use qr_lab_imgproc::blur::{estimate_line_direction, estimate_line_length_with, LineLengthConfig, RasterDirection4};
-use qr_lab_imgproc::deblur::{van_cittert_line_into, LineBorderMode, VanCittertConfig};
 
 #[derive(Clone, Debug)]
 struct Job {
@@ -62,7 +63,11 @@ pub fn measure(source: &Picture, thresholds: &LineLengthConfig) -> Result<Smear,
 }
 
 impl Job {
-    fn theirs(&self) -> Answer {
+    fn border(&self) -> Border {
+        Border::of(self.border, self.border_value)
+    }
+
+    fn expected(&self) -> Answer {
         let (s, d) = (&self.source, &self.destination);
         let pixels = s.width * s.height;
         match s.refusal() {
@@ -89,22 +94,14 @@ impl Job {
             minimum_amplitude: self.minimum_amplitude,
         };
         let Smear { direction, theta_radians, blur_length, estimate } = measure(s, &thresholds)?;
-        let border = match self.border {
-            0 => LineBorderMode::Replicate,
-            1 => LineBorderMode::Reflect,
-            _ => LineBorderMode::Constant(self.border_value),
-        };
-        let config = VanCittertConfig {
-            theta_radians,
-            blur_length,
+        let settings = Settings {
+            angle: theta_radians,
+            length: blur_length,
             iterations: self.iterations,
-            relaxation: self.relaxation,
-            border,
+            factor: self.relaxation,
+            border: self.border(),
         };
-        let mut bytes = d.data.clone();
-        let view = Gray8ViewMut::new(&mut bytes, d.width, d.height, d.stride).expect("an accepted layout");
-        van_cittert_line_into(s.view(), view, &config, &mut Default::default()).expect("an accepted call");
-        Ok((number(direction), blur_length, estimate, bytes))
+        Ok((number(direction), blur_length, estimate, filtered(s, d, &settings)))
     }
 }
 
@@ -128,7 +125,7 @@ impl Case for Job {
                 &mut direction, &mut blur_length, &mut estimate,
             )
         };
-        match self.theirs() {
+        match self.expected() {
             Err(refused) if code == refused => {
                 let lent = code == 11
                     || code == 12
@@ -138,9 +135,11 @@ impl Case for Job {
                 }
                 Verdict::Differs("a refusal changed something".into())
             }
-            Ok(theirs) if code == 0 && theirs == (direction, blur_length, estimate, bytes) => Verdict::Alike,
-            theirs => Verdict::Differs(format!(
-                "{code}, direction {direction}, length {blur_length}, {estimate:?}; not {theirs:?}"
+            Ok(expected) if code == 0 && expected == (direction, blur_length, estimate, bytes) => {
+                Verdict::alike(self.border())
+            }
+            expected => Verdict::Differs(format!(
+                "{code}, direction {direction}, length {blur_length}, {estimate:?}; not {expected:?}"
             )),
         }
     }
@@ -165,7 +164,7 @@ fn case(random: &mut Random, width: usize, height: usize) -> Job {
         minimum_amplitude: [1, 1, 24, 24, 24, 100][random.below(6) as usize],
         iterations: 1 + random.below(5) as usize,
         relaxation: [1.0, 1.0, 0.5, 0.1, -0.0, random.unit()][random.below(6) as usize],
-        border: random.below(4) as u8,
+        border: border_number(random),
         border_value: random.below(256) as u8,
         scratch: 3 * pixels + random.below(3) as usize,
         swings: pixels + random.below(3) as usize,
@@ -191,8 +190,8 @@ pub fn compare(random: &mut Random, count: usize, tally: &mut Tally) {
         let (width, height) = if random.below(4) == 0 { (width, height) } else { (3 + width, 3 + height) };
         tally.check(case(random, width, height));
     }
-    for _ in 0..4 {
-        let large = case(random, 1024, 1024);
-        tally.check(Job { minimum_transitions: 8, minimum_amplitude: 24, iterations: 3, relaxation: 1.0, ..large });
+    for border in 0..4 {
+        let large = Job { relaxation: 1.0, border, ..case(random, 1024, 1024) };
+        tally.check(Job { minimum_transitions: 8, minimum_amplitude: 24, iterations: 3, ..large });
     }
 }

@@ -1,6 +1,7 @@
 //! Compares the proved library with the Rust original: the same inputs, from a seeded generator, through the C
-//! interface. The sheet, which the original has not, is compared with a plain restatement (`sheet`). Ends with status 1
-//! at the first difference, which it prints as small as it can make it; intended ones are shown first (`differences`).
+//! interface. What the original has not is compared with a plain restatement: the sheet (`sheet`) and the line filters
+//! with Wrap (`line`), which are counted by themselves. Ends with status 1 at the first difference, which it prints as
+//! small as it can make it; intended ones are shown first (`differences`).
 
 mod angle;
 mod binomial;
@@ -12,12 +13,14 @@ mod direction;
 mod ffi;
 mod job;
 mod length;
+mod line;
 mod picture;
 mod program;
 mod random;
 mod reader;
 mod record;
 mod restoration;
+mod settings;
 mod sheet;
 mod summarize;
 mod vectors;
@@ -35,7 +38,7 @@ const USAGE: &str = "usage: oracle [--seed N] [--count N] [--only CALL]
 
 type Compare = fn(&mut Random, usize, &mut Tally);
 
-const CALLS: [(&str, Compare); 18] = [
+const CALLS: [(&str, Compare); 21] = [
     ("from_angle", angle::compare),
     ("estimate_line_direction", direction::compare),
     ("estimate_line_length", length::compare),
@@ -43,15 +46,18 @@ const CALLS: [(&str, Compare); 18] = [
     ("van_cittert_line", |random, count, tally| restoration::compare(random, count, tally, Call::Restore)),
     ("van_cittert_estimate", |random, count, tally| restoration::compare(random, count, tally, Call::Estimate)),
     ("directional_unsharp_line", |random, count, tally| restoration::compare(random, count, tally, Call::Unsharp)),
+    ("rotated: Wrap", restoration::rotated::compare),
     ("restore", job::compare),
     ("smear_run: jobs", program::jobs),
     ("smear_run: prefixes", program::prefixes),
     ("smear_run: changed bytes", program::changes),
+    ("smear_run: borders", program::borders),
     ("smear_run: random bytes", program::noise),
     ("smear_run: short pictures", program::pictures),
     ("smear_run: room", program::room),
     ("summarize: files", summarize::files),
     ("summarize: changed bytes", summarize::changes),
+    ("summarize: borders", summarize::borders),
     ("summarize: limits", summarize::limits),
     ("summarize: reordered", summarize::reordered),
 ];
@@ -83,7 +89,7 @@ fn main() {
         differences::check();
     }
     let mut all = Tally::new("all but from_angle");
-    println!("{:<28} {:>10} {:>10} {:>10}", "call", "alike", "refused", "left out");
+    println!("{:<28} {:>10} {:>10} {:>10} {:>10}", "call", "alike", "Wrap", "refused", "left out");
     for (name, compare) in CALLS.into_iter().filter(|(name, _)| name.starts_with(&only)) {
         let mut tally = Tally::new(name);
         compare(&mut Random::new(seed), count, &mut tally);
@@ -93,4 +99,8 @@ fn main() {
         }
     }
     println!("{all}");
+    println!(
+        "Wrap: left out of the runs against the Rust, which has no such border; alike with a plain restatement, \
+         and rotated with itself"
+    );
 }

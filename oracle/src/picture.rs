@@ -48,6 +48,11 @@ impl Picture {
         Gray8View::new(&self.data, self.width, self.height, self.stride).expect("an accepted layout")
     }
 
+    /// The pixels of an accepted picture, row by row.
+    pub fn pixels(&self) -> Vec<u8> {
+        (0..self.height).flat_map(|y| self.data[y * self.stride..][..self.width].iter().copied()).collect()
+    }
+
     /// A picture of the given size and any content.
     pub fn random(random: &mut Random, width: usize, height: usize) -> Self {
         let stride = width + if random.below(2) == 0 { 0 } else { random.below(8) as usize };
@@ -109,8 +114,7 @@ impl Picture {
             }
         }
         if self.stride != w || self.data.len() != w * h {
-            let data = (0..h).flat_map(|y| self.data[y * self.stride..][..w].iter().copied()).collect();
-            out.push(Self { data, width: w, height: h, stride: w });
+            out.push(Self { data: self.pixels(), width: w, height: h, stride: w });
         }
         if w * h <= 64 {
             for place in 0..self.data.len() {

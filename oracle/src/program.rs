@@ -6,7 +6,8 @@ use crate::ffi::smear_run;
 use crate::picture::{size, Picture};
 use crate::random::Random;
 use crate::reader::printed;
-use crate::record::job;
+use crate::record::{job, rows_with_borders};
+use crate::settings::Border;
 
 #[derive(Clone, Debug)]
 struct Run {
@@ -48,7 +49,7 @@ impl Case for Run {
             return Verdict::Differs(format!("byte {place} is {}, not {:?}", out[place], front.get(place)));
         }
         if fits && expected.len() > 32 {
-            Verdict::Alike
+            Verdict::alike(Border::of(job[5], job[6]))
         } else {
             Verdict::Refused
         }
@@ -86,9 +87,7 @@ impl Run {
 
 /// A picture without bytes between its rows, with surplus behind the last.
 fn tight(random: &mut Random, width: usize, height: usize, surplus: usize) -> Vec<u8> {
-    let picture = Picture::random(random, width, height);
-    let mut out: Vec<u8> =
-        (0..height).flat_map(|y| picture.data[y * picture.stride..][..width].iter().copied()).collect();
+    let mut out = Picture::random(random, width, height).pixels();
     out.extend((0..surplus).map(|_| random.below(256) as u8));
     out
 }
@@ -137,6 +136,11 @@ pub fn changes(random: &mut Random, count: usize, tally: &mut Tally) {
             }
         }
     }
+}
+
+/// A record with every border, and others that are none.
+pub fn borders(random: &mut Random, _: usize, tally: &mut Tally) {
+    rows_with_borders().for_each(|job| tally.check(Run { job, picture: tight(random, 5, 1, 0), room: ROOM }));
 }
 
 /// Records of random bytes, of any length and of 32, and good ones with a few random bytes; random pictures.

@@ -1,45 +1,39 @@
-//! What the program prints, from document 01's words ("The 32-byte record") and apart from the proved code;
-//! the pixels are the Rust's.
+//! What the program prints, from the documents' words (document 01, "The 32-byte record", and document 02, K2) and
+//! apart from the proved code; the pixels are the Rust's where it has the border, else a plain restatement's (`line`).
 
 use crate::angle::number;
 use crate::direction::is_tie;
 use crate::job::measure;
+use crate::line::filtered;
 use crate::picture::Picture;
 use crate::record::{read_job, Task};
+use crate::settings::Settings;
 use qr_lab_image::Gray8ViewMut;
 use qr_lab_imgproc::blur::RasterDirection4;
-use qr_lab_imgproc::deblur::{directional_unsharp_line_into, van_cittert_line_into, VanCittertConfig};
 use qr_lab_imgproc::sharpen::fixed_binomial_unsharp_into;
 
-/// The Rust's pixels of a tight picture, with direction, length and the estimate's bits as the result names them;
+/// The pixels of a tight picture, with direction, length and the estimate's bits as the result names them;
 /// or a refusal.
 fn answer(source: &Picture, task: Task) -> Result<(Vec<u8>, u8, usize, u64), u8> {
-    let mut pixels = vec![0; source.data.len()];
-    let view = Gray8ViewMut::new(&mut pixels, source.width, source.height, source.width).expect("an accepted layout");
-    let snapped = |angle: f64| number(RasterDirection4::from_angle(angle));
-    let (direction, length, estimate) = match task {
+    Ok(match task {
         Task::Whole(settings) => {
             let smear = measure(source, &Default::default())?;
-            let config =
-                VanCittertConfig { theta_radians: smear.theta_radians, blur_length: smear.blur_length, ..settings };
-            van_cittert_line_into(source.view(), view, &config, &mut Default::default()).expect("an accepted call");
-            (number(smear.direction), smear.blur_length, smear.estimate.to_bits())
+            let settings = Settings { angle: smear.theta_radians, length: smear.blur_length, ..settings };
+            let pixels = filtered(source, source, &settings);
+            (pixels, number(smear.direction), smear.blur_length, smear.estimate.to_bits())
         }
-        Task::Restoration(config) => {
-            van_cittert_line_into(source.view(), view, &config, &mut Default::default()).expect("an accepted call");
-            (snapped(config.theta_radians), config.blur_length, 0)
-        }
-        Task::Unsharp(config) => {
-            directional_unsharp_line_into(source.view(), view, &config, &mut Default::default())
-                .expect("an accepted call");
-            (snapped(config.theta_radians), config.blur_length, 0)
+        Task::Line(settings) => {
+            let direction = number(RasterDirection4::from_angle(settings.angle));
+            (filtered(source, source, &settings), direction, settings.length, 0)
         }
         Task::Binomial => {
-            fixed_binomial_unsharp_into(source.view(), view, &mut Default::default()).expect("an accepted call");
-            (0, 0, 0)
+            let mut pixels = vec![0; source.data.len()];
+            let view = Gray8ViewMut::new(&mut pixels, source.width, source.height, source.width);
+            fixed_binomial_unsharp_into(source.view(), view.expect("an accepted layout"), &mut Default::default())
+                .expect("an accepted call");
+            (pixels, 0, 0, 0)
         }
-    };
-    Ok((pixels, direction, length, estimate))
+    })
 }
 
 /// The bytes that the program prints for the two files' bytes; nothing where a whole job's direction is a tie,

@@ -1,14 +1,13 @@
-//! The 32-byte record: read from document 01's words and apart from the proved code, and made up at random.
-//! The bench uses this file too.
+//! The 32-byte record: read from document 01's words, with document 02's border (K2), and apart from the proved code;
+//! and made up at random. The bench uses this file too.
 
 use crate::random::Random;
-use qr_lab_imgproc::deblur::{DirectionalUnsharpConfig, LineBorderMode, VanCittertConfig};
+use crate::settings::{Border, Settings};
 
 /// What a job asks for.
 pub enum Task {
-    Whole(VanCittertConfig),
-    Restoration(VanCittertConfig),
-    Unsharp(DirectionalUnsharpConfig),
+    Whole(Settings),
+    Line(Settings),
     Binomial,
 }
 
@@ -23,27 +22,19 @@ fn line_task(bytes: &[u8; 32], longest: usize) -> Option<Task> {
     if bytes[4] != 0 || bytes[24..].iter().any(|&byte| byte != 0) {
         return None;
     }
-    let border = match (bytes[5], bytes[6]) {
-        (0, 0) => LineBorderMode::Replicate,
-        (1, 0) => LineBorderMode::Reflect,
-        (2, value) => LineBorderMode::Constant(value),
-        _ => return None,
-    };
-    let (blur_length, iterations) = (short(bytes, 8), short(bytes, 10));
+    let border = Border::in_record(bytes[5], bytes[6])?;
+    let (length, iterations) = (short(bytes, 8), short(bytes, 10));
     let q = short(bytes, 12) + 65_536 * short(bytes, 14);
-    let factor = q as f64 / 65_536.0;
     let angle_bits = bytes[16..24].iter().rev().fold(0, |bits, &byte| bits << 8 | u64::from(byte));
-    let theta_radians = f64::from_bits(angle_bits);
-    let measured = blur_length == 0 && angle_bits == 0;
-    let stated = blur_length % 2 == 1 && (3..=longest).contains(&blur_length) && theta_radians.is_finite();
-    let restoration = VanCittertConfig { theta_radians, blur_length, iterations, relaxation: factor, border };
+    let angle = f64::from_bits(angle_bits);
+    let measured = length == 0 && angle_bits == 0;
+    let stated = length % 2 == 1 && (3..=longest).contains(&length) && angle.is_finite();
+    let settings = Settings { angle, length, iterations, factor: q as f64 / 65_536.0, border };
     match bytes[7] {
         1 if !(1..=22).contains(&iterations) || q > 65_536 => None,
-        1 if measured => Some(Task::Whole(restoration)),
-        1 if stated => Some(Task::Restoration(restoration)),
-        2 if iterations == 0 && q <= 524_288 && stated => {
-            Some(Task::Unsharp(DirectionalUnsharpConfig { theta_radians, blur_length, gain: factor, border }))
-        }
+        1 if measured => Some(Task::Whole(settings)),
+        1 if stated => Some(Task::Line(settings)),
+        2 if iterations == 0 && q <= 524_288 && stated => Some(Task::Line(settings)),
         _ => None,
     }
 }
@@ -94,6 +85,13 @@ fn length(random: &mut Random, width: usize, height: usize) -> [u8; 2] {
     (3 + 2 * random.below(width.max(height) as u64) as u16).to_le_bytes()
 }
 
+/// Document 01's row, 5 by 1, with every border's byte: 0 to 5 with every value, the others with 0 and 1.
+pub fn rows_with_borders() -> impl Iterator<Item = Vec<u8>> {
+    let values = |border| 0..=if border <= 5 { 255 } else { 1 };
+    let bytes = (0..=255).flat_map(move |border| values(border).map(move |value| (border, value)));
+    bytes.map(|(border, value)| [&[5, 0, 1, 0, 0, border, value, 1, 3, 0, 1, 0, 0, 0, 1, 0][..], &[0; 16]].concat())
+}
+
 /// A record that is a job, of every filter and border.
 pub fn job(random: &mut Random, width: usize, height: usize) -> Vec<u8> {
     let filter = [1, 1, 1, 2, 2, 3][random.below(6) as usize];
@@ -105,7 +103,7 @@ pub fn job(random: &mut Random, width: usize, height: usize) -> Vec<u8> {
     if filter == 3 {
         return out;
     }
-    out[5] = random.below(3) as u8;
+    out[5] = random.below(4) as u8;
     out[6] = if out[5] == 2 { random.below(256) as u8 } else { 0 };
     if !whole {
         out[8..10].copy_from_slice(&length(random, width, height));

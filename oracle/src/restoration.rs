@@ -1,16 +1,16 @@
-//! The line filters: restoration and line unsharp against the Rust, and the estimate call
-//! against a plain restatement of the Rust's steps.
+//! The line filters: restoration and line unsharp against the Rust, and against a plain restatement of its steps with
+//! the border that it has not; the estimate call against that restatement with every border.
+
+pub mod rotated;
 
 use crate::angle::number;
 use crate::case::{Case, Tally, Verdict};
 use crate::ffi::{smear_directional_unsharp_line, smear_van_cittert_estimate, smear_van_cittert_line};
+use crate::line::{estimate, filtered};
 use crate::picture::{size, Picture};
 use crate::random::Random;
-use qr_lab_image::Gray8ViewMut;
+use crate::settings::{border_number, Border, Settings};
 use qr_lab_imgproc::blur::RasterDirection4;
-use qr_lab_imgproc::deblur::{
-    directional_unsharp_line_into, van_cittert_line_into, DirectionalUnsharpConfig, LineBorderMode, VanCittertConfig,
-};
 
 #[derive(Clone, Copy, Debug, PartialEq)]
 pub enum Call {
@@ -38,11 +38,13 @@ pub struct Filter {
 const OLD: i32 = 0x5A5A_5A5A;
 
 impl Filter {
-    fn mode(&self) -> LineBorderMode {
-        match self.border {
-            0 => LineBorderMode::Replicate,
-            1 => LineBorderMode::Reflect,
-            _ => LineBorderMode::Constant(self.border_value),
+    fn settings(&self) -> Settings {
+        Settings {
+            angle: self.angle,
+            length: self.length,
+            iterations: if self.call == Call::Unsharp { 0 } else { self.iterations },
+            factor: self.factor,
+            border: Border::of(self.border, self.border_value),
         }
     }
 
@@ -105,68 +107,15 @@ impl Filter {
         }
     }
 
-    /// The destination as the Rust leaves it.
-    fn theirs(&self) -> Vec<u8> {
-        let (s, d) = (&self.source, &self.destination);
-        let mut bytes = d.data.clone();
-        let view = Gray8ViewMut::new(&mut bytes, d.width, d.height, d.stride).expect("an accepted layout");
-        let (theta_radians, blur_length, border) = (self.angle, self.length, self.mode());
-        let done = if self.call == Call::Unsharp {
-            let config = DirectionalUnsharpConfig { theta_radians, blur_length, gain: self.factor, border };
-            directional_unsharp_line_into(s.view(), view, &config, &mut Default::default())
-        } else {
-            let config = VanCittertConfig {
-                theta_radians,
-                blur_length,
-                iterations: self.iterations,
-                relaxation: self.factor,
-                border,
-            };
-            van_cittert_line_into(s.view(), view, &config, &mut Default::default())
-        };
-        done.expect("an accepted call");
-        bytes
-    }
-
-    /// The last estimate, by the document's words and in 64 bits.
-    fn estimate(&self) -> Vec<i64> {
-        let s = &self.source;
-        let (w, h) = (s.width as i64, s.height as i64);
-        let (dx, dy) = RasterDirection4::from_angle(self.angle).step();
-        let (dx, dy) = (dx as i64, dy as i64);
-        let q = (self.factor * 65_536.0).round() as i64;
-        let half = (self.length / 2) as i64;
-        let inside = |x: i64, y: i64| (0..w).contains(&x) && (0..h).contains(&y);
-        let observed: Vec<i64> =
-            (0..h).flat_map(|y| (0..w).map(move |x| i64::from(s.data[y as usize * s.stride + x as usize]))).collect();
-        let mut estimate = observed.clone();
-        for _ in 0..self.iterations {
-            let last = estimate.clone();
-            for y in 0..h {
-                for x in 0..w {
-                    // how far the line goes either way from here
-                    let before = (1..).take_while(|k| inside(x - k * dx, y - k * dy)).count() as i64;
-                    let n = before + 1 + (1..).take_while(|k| inside(x + k * dx, y + k * dy)).count() as i64;
-                    let sample = |p: i64| {
-                        let place = match self.mode() {
-                            LineBorderMode::Replicate => p.clamp(0, n - 1),
-                            LineBorderMode::Constant(value) if !(0..n).contains(&p) => return i64::from(value),
-                            LineBorderMode::Constant(_) => p,
-                            LineBorderMode::Reflect if n == 1 => 0,
-                            LineBorderMode::Reflect => {
-                                let r = p.rem_euclid(2 * n - 2);
-                                r.min(2 * n - 2 - r)
-                            }
-                        };
-                        last[((y + (place - before) * dy) * w + x + (place - before) * dx) as usize]
-                    };
-                    let sum: i64 = (before - half..=before + half).map(sample).sum();
-                    let at = (y * w + x) as usize;
-                    estimate[at] = last[at] + (observed[at] - sum.div_euclid(self.length as i64)) * q / 65_536;
-                }
-            }
+    /// What our call writes into the picture, row by row; or its refusal.
+    fn written(&self) -> Result<Vec<i32>, u8> {
+        let mut destination = self.destination.clone();
+        let mut estimates = vec![OLD; self.estimates];
+        match self.ours(&mut destination.data, &mut estimates, &mut vec![OLD; self.scratch], &mut 77) {
+            0 if self.call == Call::Estimate => Ok(estimates[..self.source.width * self.source.height].to_vec()),
+            0 => Ok(destination.pixels().into_iter().map(i32::from).collect()),
+            refused => Err(refused),
         }
-        estimate
     }
 }
 
@@ -189,21 +138,22 @@ impl Case for Filter {
         if direction != number(RasterDirection4::from_angle(self.angle)) {
             return Verdict::Differs(format!("direction {direction}"));
         }
+        let settings = self.settings();
         if self.call == Call::Estimate {
             let pixels = self.source.width * self.source.height;
             if estimates[pixels..].iter().any(|&v| v != OLD) {
                 return Verdict::Differs("an estimate behind the last".into());
             }
-            let theirs = self.estimate();
-            return match (0..pixels).find(|&i| i64::from(estimates[i]) != theirs[i]) {
-                None => Verdict::Alike,
-                Some(i) => Verdict::Differs(format!("estimate {i} is {}, not {}", estimates[i], theirs[i])),
+            let restated = estimate(&self.source, &settings);
+            return match (0..pixels).find(|&i| i64::from(estimates[i]) != restated[i]) {
+                None => Verdict::alike(settings.border),
+                Some(i) => Verdict::Differs(format!("estimate {i} is {}, not {}", estimates[i], restated[i])),
             };
         }
-        let theirs = self.theirs();
-        match bytes.iter().zip(&theirs).position(|(a, b)| a != b) {
-            None => Verdict::Alike,
-            Some(place) => Verdict::Differs(format!("byte {place} is {}, the Rust's {}", bytes[place], theirs[place])),
+        let expected = filtered(&self.source, &self.destination, &settings);
+        match (0..bytes.len()).find(|&place| bytes[place] != expected[place]) {
+            None => Verdict::alike(settings.border),
+            Some(place) => Verdict::Differs(format!("byte {place} is {}, not {}", bytes[place], expected[place])),
         }
     }
 
@@ -249,7 +199,8 @@ fn angle(random: &mut Random) -> f64 {
     }
 }
 
-fn case(random: &mut Random, call: Call, width: usize, height: usize) -> Filter {
+/// A call with any settings, in pictures and room as they must be.
+fn plain(random: &mut Random, call: Call, width: usize, height: usize) -> Filter {
     let pixels = width * height;
     let reach = 2 * width.max(height) + 1;
     let odd = 3 + 2 * random.below(reach as u64 / 2) as usize;
@@ -264,7 +215,7 @@ fn case(random: &mut Random, call: Call, width: usize, height: usize) -> Filter 
         1 => 22,
         _ => 1 + random.below(5) as usize,
     };
-    let mut out = Filter {
+    Filter {
         call,
         source: Picture::random(random, width, height),
         destination: Picture::random(random, width, height),
@@ -273,10 +224,16 @@ fn case(random: &mut Random, call: Call, width: usize, height: usize) -> Filter 
         length,
         iterations,
         factor: factor(random, if call == Call::Unsharp { 8.0 } else { 1.0 }),
-        border: [0, 1, 2, 2, 255][random.below(5) as usize],
+        border: border_number(random),
         border_value: random.below(256) as u8,
         scratch: 3 * pixels + random.below(3) as usize,
-    };
+    }
+}
+
+/// The same, now and then in a picture or room that is refused.
+fn case(random: &mut Random, call: Call, width: usize, height: usize) -> Filter {
+    let mut out = plain(random, call, width, height);
+    let pixels = width * height;
     match random.below(40) {
         0 => out.source = out.source.damaged(random),
         1 => out.destination = out.destination.damaged(random),
@@ -293,13 +250,11 @@ pub fn compare(random: &mut Random, count: usize, tally: &mut Tally, call: Call)
         let (width, height) = size(random);
         tally.check(case(random, call, width, height));
     }
-    if call == Call::Estimate {
-        return;
-    }
-    // large ones, with as many iterations as there may be, in each direction
+    // large ones, with as many iterations as there may be, in each direction, with one of the Rust's borders and Wrap
     for angle in [0.0, 0.75, 1.5, 2.25] {
-        let border = random.below(3) as u8;
-        let large = case(random, call, 1024, 1024);
-        tally.check(Filter { angle, length: 31, iterations: 22, factor: 1.0, border, ..large });
+        for border in [random.below(3) as u8, 3] {
+            let large = plain(random, call, 1024, 1024);
+            tally.check(Filter { angle, length: 31, iterations: 22, factor: 1.0, border, ..large });
+        }
     }
 }

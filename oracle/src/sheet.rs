@@ -20,8 +20,7 @@ pub fn sheet(records: &[u8]) -> Result<[u64; NUMBERS], usize> {
                 numbers[20] += 1;
                 continue;
             }
-            Some((direction, Task::Restoration(config))) => (direction, config.blur_length as u64),
-            Some((direction, Task::Unsharp(config))) => (direction, config.blur_length as u64),
+            Some((direction, Task::Line(settings))) => (direction, settings.length as u64),
         };
         let smears = &mut numbers[5 * usize::from(direction)..][..5];
         smears[0] += 1;

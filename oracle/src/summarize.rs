@@ -4,7 +4,7 @@
 use crate::case::{Case, Tally, Verdict};
 use crate::ffi::smear_summarize;
 use crate::random::Random;
-use crate::record::{job, listed};
+use crate::record::{job, listed, rows_with_borders};
 use crate::sheet::{sheet, MOST_RECORDS, NUMBERS};
 use std::fmt;
 
@@ -208,6 +208,11 @@ pub fn changes(random: &mut Random, inputs: usize, tally: &mut Tally) {
             }
         }
     }
+}
+
+/// A record with every border, and others that are none.
+pub fn borders(_: &mut Random, _: usize, tally: &mut Tally) {
+    rows_with_borders().for_each(|record| tally.check(File { records: Records(record), room: NUMBERS }));
 }
 
 /// Files about the most records, each with the index of the fault that the document's own words state.

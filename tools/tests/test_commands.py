@@ -8,11 +8,12 @@ import unittest
 TOOLS = os.path.dirname(os.path.dirname(os.path.abspath(__file__)))
 # document 01, "Length": three equal rows
 RAMP = b"P2 10 3 255\n" + 3 * b"0 0 0 50 100 150 200 250 250 250\n"
-# results of pictures of 5 by 1: Horizontal restorations of lengths 3 and 5, a Horizontal line unsharp of length 3,
-# a binomial, and a Vertical restoration of length 11 with estimate 10.5, whose bits are 4025 0000 0000 0000
+# results of pictures of 5 by 1: Horizontal restorations of lengths 3 and, with the wrapping border, 5, a Horizontal
+# line unsharp of length 3, a binomial, and a Vertical restoration of length 11 with estimate 10.5, whose bits are
+# 4025 0000 0000 0000
 RESULTS = [
     bytes.fromhex("0500 0100 00 00 00 01 0300 0100 00000100" + 16 * "00"),
-    bytes.fromhex("0500 0100 00 00 00 01 0500 0100 00000100" + 16 * "00"),
+    bytes.fromhex("0500 0100 00 03 00 01 0500 0100 00000100" + 16 * "00"),
     bytes.fromhex("0500 0100 00 00 00 02 0300 0000 00800100" + 16 * "00"),
     bytes.fromhex("0500 0100 00 00 00 03" + 24 * "00"),
     bytes.fromhex("0500 0100 02 00 00 01 0B00 0100 00000100 0000000000000000 0000000000002540"),
@@ -61,8 +62,13 @@ class Commands(unittest.TestCase):
         self.file("answer", b"pixels" + self.file("job.rec"))
         self.assertIn("length     3", self.run_tool("record", "show", "--last", "answer"))
         self.assertIn("refused 13", self.run_tool("record", "show", "answer", status=1))
-        many = ["--width", "5", "--height", "1", "--iterations", "23"]
-        self.assertIn("refused 9", self.run_tool("record", "make", *many, status=1))
+        size = ["--width", "5", "--height", "1"]
+        self.assertIn("refused 9", self.run_tool("record", "make", *size, "--iterations", "23", status=1))
+        self.run_tool("record", "make", *size, "--border", "wrap")
+        self.assertEqual(self.file("job.rec")[5:7], b"\3\0")
+        self.assertIn("border     wrap\n", self.run_tool("record", "show", "job.rec"))
+        valued = ["--border", "wrap", "--border-value", "7"]
+        self.assertIn("refused 13", self.run_tool("record", "make", *size, *valued, status=1))
         self.assertIn("no-such-file", self.run_tool("record", "show", "no-such-file", status=1))
 
     def test_sheet(self):
@@ -80,10 +86,12 @@ class Commands(unittest.TestCase):
         self.assertEqual([line.split()[1:] for line in lines[1:]], 4 * [["0", "0", "0", "0.000"]] + [["0"]])
 
     def test_what_a_sheet_refuses(self):
-        unread = RESULTS[0][:5] + b"\3" + RESULTS[0][6:]
+        unread = RESULTS[0][:5] + b"\4" + RESULTS[0][6:]
+        valued = RESULTS[1][:6] + b"\7" + RESULTS[1][7:]
         for bad, why in [
             (RESULTS[0][:31], "it does not read: a record has 32 bytes, not 31\n05 00 01 00 00 00 00 01 03 00"),
-            (unread, "it does not read: border 3 is not in 0..2\n05 00 01 00 00 03 00 01 03 00"),
+            (unread, "it does not read: border 4 is not in 0..3\n05 00 01 00 00 04 00 01 03 00"),
+            (valued, "it does not read: a border value stands without the constant border\n05 00 01 00 00 03 07 01"),
             (WHOLE_JOB, "a job without a length has no place on the sheet\njob: the whole job"),
         ]:
             # a later fault does not matter
@@ -118,6 +126,15 @@ class Commands(unittest.TestCase):
         said = self.run_tool("restore", "row.pgm", "out.pgm", "--length", "3", "--iterations", "2")
         self.assertEqual(self.file("out.pgm"), b"P5\n5 1\n255\n" + bytes([14, 0, 80, 0, 14]))
         self.assertIn("direction  Horizontal\n  length     3", said)
+
+    def test_restored_row_of_a_drum(self):
+        # document 02, K2: a window of 3 takes the other end, one of 11 goes round twice
+        self.file("row.pgm", b"P2 5 1 255\n40 10 10 10 10\n")
+        for length, row in [("3", [60, 0, 10, 10, 0]), ("11", [62, 5, 5, 5, 5])]:
+            options = ["--length", length, "--iterations", "1", "--border", "wrap"]
+            said = self.run_tool("restore", "row.pgm", "out.pgm", *options)
+            self.assertEqual(self.file("out.pgm"), b"P5\n5 1\n255\n" + bytes(row))
+            self.assertIn("border     wrap\n", said)
 
     def test_what_restore_refuses(self):
         self.file("ramp.pgm", RAMP)

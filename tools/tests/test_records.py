@@ -1,4 +1,4 @@
-"""Records: bytes written out by hand from document 01, its limits at both sides, and each way to break the layout."""
+"""Records: bytes written out by hand from the documents, limits at both sides, and each way to break the layout."""
 import argparse
 import unittest
 
@@ -12,6 +12,8 @@ RESULT = bytes.fromhex("4000 4000 02 00 00 01 0700 0300 00000100 000000000000000
 # gain 1.5 is q 98,304; angle 1.5 is 3FF8 0000 0000 0000; constant border 7
 UNSHARP = bytes.fromhex("0500 0100 00 02 07 02 0300 0000 00800100 000000000000F83F 0000000000000000")
 BINOMIAL = bytes.fromhex("0500 0100 00 00 00 03" + 24 * "00")
+# document 02, K2: the row with the wrapping border, which is 3 and has no value
+WRAP = bytes.fromhex("0500 0100 00 03 00 01 0300 0100 00000100" + 16 * "00")
 
 
 def job(width, height, *arguments):
@@ -37,9 +39,10 @@ class Records(unittest.TestCase):
         unsharp = "--filter unsharp --length 3 --angle 1.5 --border constant --border-value 7"
         self.assertEqual(job(5, 1, *unsharp.split()), UNSHARP)
         self.assertEqual(job(5, 1, "--filter", "binomial"), BINOMIAL)
+        self.assertEqual(job(5, 1, "--length", "3", "--iterations", "1", "--border", "wrap"), WRAP)
 
     def test_bytes_and_fields_determine_each_other(self):
-        for data in [ROW, WHOLE_JOB, RESULT, UNSHARP, BINOMIAL]:
+        for data in [ROW, WHOLE_JOB, RESULT, UNSHARP, BINOMIAL, WRAP]:
             self.assertEqual(records.write(records.read(data)), data)
 
     def test_fields_of_a_result(self):
@@ -81,15 +84,25 @@ class Records(unittest.TestCase):
             with self.assertRaises(ValueError):
                 job(5, 1, *arguments)
 
+    def test_a_value_stands_with_the_constant_border_alone(self):
+        for border in ["replicate", "reflect", "wrap"]:
+            self.refuses(13, job, 5, 1, "--border", border, "--border-value", "7")
+            self.assertEqual(job(5, 1, "--border", border, "--border-value", "0"), job(5, 1, "--border", border))
+        self.assertEqual(job(5, 1, "--border", "constant", "--border-value", "7")[5:7], b"\2\7")
+
     def test_lengths_of_a_record(self):
         for data in [b"", ROW[:31], ROW + b"\0"]:
             self.refuses(13, records.read, data)
 
     def test_broken_sizes_and_single_bytes(self):
         for place, there in [
-            (0, "0000"), (0, "0104"), (2, "0000"), (2, "0104"), (4, "04"), (5, "03"), (6, "01"), (7, "00"), (7, "04"),
+            (0, "0000"), (0, "0104"), (2, "0000"), (2, "0104"), (4, "04"), (5, "04"), (6, "01"), (7, "00"), (7, "04"),
         ]:
             self.breaks(ROW, place, there)
+
+    def test_broken_borders(self):
+        for border_and_value in ["0007", "0107", "0301", "0307", "03FF", "0400", "0407", "FF00"]:
+            self.breaks(ROW, 5, border_and_value)
 
     def test_broken_numbers(self):
         for place, there in [(8, "0100"), (8, "0200"), (8, "0D00"), (10, "0000"), (10, "1700"), (12, "01000100")]:
@@ -120,3 +133,5 @@ class Records(unittest.TestCase):
         self.assertIn("whole job", records.words(records.read(WHOLE_JOB)))
         self.assertIn("line unsharp, gain 1.5 (q 98304)", records.words(records.read(UNSHARP)))
         self.assertIn("direction  Vertical, from the angle 1.5", records.words(records.read(UNSHARP)))
+        self.assertIn("border     constant 7\n", records.words(records.read(UNSHARP)))
+        self.assertIn("border     wrap\n", records.words(records.read(WRAP)))

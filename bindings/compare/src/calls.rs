@@ -50,7 +50,8 @@ fn border(s: &Settings) -> deblur::LineBorderMode {
     match s.border {
         0 => deblur::LineBorderMode::Replicate,
         1 => deblur::LineBorderMode::Reflect,
-        _ => deblur::LineBorderMode::Constant(s.border_value),
+        2 => deblur::LineBorderMode::Constant(s.border_value),
+        other => panic!("the Rust has no border {other}"),
     }
 }
 

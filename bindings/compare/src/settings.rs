@@ -2,6 +2,9 @@
 
 use crate::random::Random;
 
+/// The border that document 02 (K2) adds: the Rust's type has no such word, so no call site of both can say it.
+pub const WRAP: u8 = 3;
+
 #[derive(Debug)]
 pub struct Settings {
     pub angle: f64,
@@ -33,7 +36,7 @@ impl Settings {
             blur_length: random.below(side as u64 + 3) as usize * 2 + (random.below(8) != 0) as usize,
             iterations: random.below(7) as usize,
             factor,
-            border: random.below(3) as u8,
+            border: random.below(4) as u8,
             border_value: random.below(256) as u8,
         }
     }

@@ -1,4 +1,4 @@
--- Document 01's cases of the restoration, the line unsharp and refusals 7 to 10.
+-- Document 01's cases of the restoration, the line unsharp and refusals 7 to 10, and a diagonal that wraps.
 use mathlib.Core.Path.{_≡_, refl}
 use mathlib.Core.List.{List, [], _∷_, map}
 use Prim.Native.Nat.{ℕ}
@@ -11,7 +11,7 @@ use Rattle.image.specs.Refusal.{layoutRefusal, pairRefusal}
 use Rattle.image.specs.Picture.{pixel}
 use Rattle.raster.specs.Border.{borderMap}
 use Rattle.raster.specs.Lines.{startCol, startRow, lineOf}
-use Rattle.raster.specs.declared.border.LineBorderMode.the-variants.{Replicate, Constant}
+use Rattle.raster.specs.declared.border.LineBorderMode.the-variants.{Replicate, Constant, Wrap}
 use Rattle.raster.specs.declared.direction.RasterDirection4.the-variants.{Horizontal, DownRight, DownLeft}
 use Rattle.line.specs.Iteration.{mean, stepped, after}
 use Rattle.line.specs.Line.{sample, window}
@@ -65,6 +65,15 @@ corner = 0 ∷ 30 ∷ 0 ∷ 0 ∷ 0 ∷ 0 ∷ []
 diagonal-start : estimate (pixel corner 3) DownRight 3 2 Replicate 3 65536 1 1 0 ≡ pos 40
 unfolding estimate estimateOn after stepped mean window sample borderMap total corner startCol startRow lineOf
 diagonal-start = refl
+
+-- 12 30 0 over 60 0 9, along the same diagonal under Wrap (document 02, K2), which goes on at its own other end:
+-- 30 + (30 − (9 + 30 + 9) / 3). On a torus (0, 1) would stand before the start, and give 27.
+tile : List ℕ
+tile = 12 ∷ 30 ∷ 0 ∷ 60 ∷ 0 ∷ 9 ∷ []
+
+diagonal-wrap : estimate (pixel tile 3) DownRight 3 2 Wrap 3 65536 1 1 0 ≡ pos 44
+unfolding estimate estimateOn after stepped mean window sample borderMap total tile startCol startRow lineOf
+diagonal-wrap = refl
 
 -- ---- "Refusals"
 

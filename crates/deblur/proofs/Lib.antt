@@ -3,6 +3,7 @@ pub mod Along
 pub mod Calls
 pub mod Conditions
 pub mod Determined
+pub mod Drum
 pub mod Examples
 pub mod LineByLine
 pub mod PictureLaws

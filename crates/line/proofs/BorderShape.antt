@@ -1,17 +1,14 @@
--- The shapes of the borders: Replicate and Constant are flat, Reflect comes again after 2n − 2 places.
+-- The shapes of the borders: Replicate and Constant are flat, Reflect comes again after 2n − 2 places, Wrap after n.
 use mathlib.Core.Path.{_≡_, refl, sym, ap, _∙_}
 use mathlib.Core.Logic.{⊎-elim}
-use Prim.Native.Nat.{ℕ, suc, _+_, _-_, _*_, _%_, _≤_, _<_, max}
-use native.Mathlib.Nat.{eq-or-lt-of-le, add-mod-right, mod-eq-of-lt}
+use Prim.Native.Nat.{ℕ, _-_, _*_, _≤_, _<_, max}
+use native.Mathlib.Nat.{eq-or-lt-of-le}
 use native.Mathlib.Omega.{arith}
-use borrow.Author.Tests.{ltb-true, ltb-false}
-use lib.Dec.{ltb}
-use lib.IntN.{ℤ, pos, negsuc, _+ℤ_}
-use Rattle.numbers.proofs.Test.{by-test}
+use lib.IntN.{pos, _+ℤ_}
 use Rattle.raster.specs.Border.{modℤ, folded, borderMap}
-use Rattle.raster.specs.declared.border.LineBorderMode.the-variants.{Replicate, Reflect, Constant}
+use Rattle.raster.specs.declared.border.LineBorderMode.the-variants.{Replicate, Reflect, Constant, Wrap}
 use Rattle.raster.specs.declared.border.BorderSample.the-variants.{Inside}
-use Rattle.raster.proofs.BorderMap.{mod-before, mod-from, nearer-behind, constant-behind, reflected-one, reflected-more}
+use Rattle.raster.proofs.BorderMap.{modℤ-again, nearer-behind, constant-behind, reflected-one, reflected-more}
 use Rattle.line.specs.Kernel.{FlatBorder, PeriodicBorder}
 
 pub replicate-flat : (n : ℕ) → FlatBorder n (borderMap Replicate n)
@@ -30,20 +27,6 @@ constant-flat v n =
       behind = λ k h. constant-behind v n k h ∙ sym (constant-behind v n n (omega arith));
     }
 
-modℤ-again : (m : ℕ) → 0 < m → (p : ℤ) → modℤ (p +ℤ pos m) m ≡ modℤ p m
-modℤ-again m some (pos k) = add-mod-right k m
-modℤ-again m some (negsuc k) =
-    by-test (ltb m (suc k))
-    (λ t.
-    let far : m < suc k = ltb-true m (suc k) t in
-    let e : k ≡ suc k - m - 1 + m = omega arith in
-    mod-before m (suc k) m far ∙ ap (λ (j : ℕ). m - 1 - j) (sym (ap (_% m) e ∙ add-mod-right (suc k - m - 1) m)))
-    (λ t.
-    let near : suc k ≤ m = ltb-false m (suc k) t in
-    mod-from m (suc k) m near
-    ∙ mod-eq-of-lt (omega arith)
-    ∙ sym (ap (λ (j : ℕ). m - 1 - j) (mod-eq-of-lt near) ∙ omega arith))
-
 pub reflect-periodic : (n : ℕ) → 1 ≤ n → PeriodicBorder (max 1 (2 * n - 2)) (borderMap Reflect n)
 unfolding borderMap
 reflect-periodic n some =
@@ -61,3 +44,7 @@ reflect-periodic n some =
           ∙ sym (reflected-more n p l))
           (eq-or-lt-of-le some));
     }
+
+pub wrap-periodic : (n : ℕ) → 1 ≤ n → PeriodicBorder n (borderMap Wrap n)
+unfolding borderMap
+wrap-periodic n some = record { some = some; again = λ p. ap Inside (modℤ-again n some p) }

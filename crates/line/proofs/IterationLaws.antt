@@ -1,6 +1,7 @@
 -- The laws of the iteration over any window. What its definitions say, one law for each, so that no other file unfolds
--- them. Then: estimates depend on the samples of the picture alone where the window does (`after-same`), and, over a
--- lawful window, document 01's "|Yk| ≤ 255 × (2^(k+1) − 1)" (`after-within`), which fits an i32 (`after-fits`).
+-- them. Then: estimates depend on the samples of the picture alone where the window does (`after-same`), those of a
+-- rearranged picture are its own, rearranged, where the window's are (`after-rearranged`), and, over a lawful window,
+-- document 01's "|Yk| ≤ 255 × (2^(k+1) − 1)" (`after-within`), which fits an i32 (`after-fits`).
 use mathlib.Core.Path.{_≡_, refl, sym, ap, ap₂, _∙_}
 use Prim.Native.Nat.{ℕ, zero, suc, _+_, _-_, _*_, _^_, _≤_, _<_}
 use native.Mathlib.Nat.{le-refl, mul-comm, mul-le-mul-left, mul-le-mul-right, div-le-of-le-mul}
@@ -80,6 +81,31 @@ module _ {P : Type 0} {On : P → Type 0} {W : Window P} (taps : ℕ) (reads : R
         after-suc W taps b q k p
         ∙ stepped-same (after W taps b q k) (after W taps c q k) (after-same k) p h
         ∙ sym (after-suc W taps c q k p)
+
+-- Where the window of a rearranged picture is the picture's own at the place that is taken, the estimates of the
+-- rearranged picture are the picture's own, rearranged.
+module _ {P : Type 0} {On : P → Type 0} {W : Window P} (taps : ℕ) (reads : Reads On W)
+    (to : P → P) (moves : (y : P → ℤ) (p : P) → W (λ i. y (to i)) p ≡ W y (to p)) where
+  mean-rearranged : (y : P → ℤ) (p : P) → mean W taps (λ i. y (to i)) p ≡ mean W taps y (to p)
+  mean-rearranged y p =
+      mean-is W taps (λ i. y (to i)) p
+      ∙ ap (λ (x : ℤ). shrZ x taps) (moves y p)
+      ∙ sym (mean-is W taps y (to p))
+
+  module _ (b : P → ℤ) (q : ℕ) where
+    pub after-rearranged : (k : ℕ) (p : P) → after W taps (λ i. b (to i)) q k p ≡ after W taps b q k (to p)
+    after-rearranged zero p = after-zero W taps (λ i. b (to i)) q p ∙ sym (after-zero W taps b q (to p))
+    after-rearranged (suc k) p =
+        let y = after W taps b q k in
+        let z = after W taps (λ i. b (to i)) q k in
+        let m : mean W taps z p ≡ mean W taps y (to p) =
+        mean-same taps reads z (λ i. y (to i)) (λ i _. after-rearranged k i) p ∙ mean-rearranged y p
+        in
+        after-suc W taps (λ i. b (to i)) q k p
+        ∙ stepped-is W taps (λ i. b (to i)) q z p
+        ∙ ap₂ (stepFrom q (b (to p))) m (after-rearranged k p)
+        ∙ sym (stepped-is W taps b q y (to p))
+        ∙ sym (after-suc W taps b q k (to p))
 
 module _ {P : Type 0} {On : P → Type 0} {W : Window P} {taps : ℕ} (l : LawfulWindow On W taps) (some : 0 < taps) where
   pub mean-within : (y : P → ℤ) (B : ℕ) → Bounded On B y → 255 ≤ B → (p : P) → natAbs (mean W taps y p) ≤ B

@@ -7,6 +7,7 @@ pub mod NearLine
 pub mod NearCut
 pub mod BorderByte
 pub mod BorderShape
+pub mod Wrap
 pub mod Examples
 pub mod KernelFirst
 pub mod KernelGather

@@ -1,6 +1,6 @@
 // The sum of the estimate's window at the first place, and one place on.
 ghost use mathlib.Core.Path.{_≡_};
-ghost use Prim.Native.Nat.{_*_, _-_, _^_, _≤_, _<_, max};
+ghost use Prim.Native.Nat.{_*_, _^_, _≤_, _<_};
 ghost use lib.IntN.{pos, natAbs, subℕ, _+ℤ_, _-ℤ_, _*ℤ_};
 ghost use lib.ListN.{length};
 ghost use Rattle.numbers.specs.Sum.{total};
@@ -17,6 +17,7 @@ use numbers::widen_u8;
 use raster::border::BorderSample;
 use raster::border::LineBorderMode;
 use raster::border::border_index;
+use raster::border::reflected_period;
 
 // The estimate at the place u - half.
 pub(crate) fn sample_at(
@@ -101,17 +102,6 @@ fn flat_window(scratch: &[i32], settings: MeanSettings) -> i64
     before + line_sum(scratch, settings, inside) + behind
 }
 
-// After how many places a reflected line comes again.
-fn reflected_period(n: usize) -> usize
-    requires { ⌜ (1 ≤ n) × (n ≤ maxSide) ⌝ }
-    ensures { λ r. ⌜ r ≡ max 1 (2 * n - 2) ⌝ }
-{
-    if n == 1 {
-        return 1;
-    }
-    2 * n - 2
-}
-
 // The sum of the window at the first place, of a border that comes again after a period: whole periods and a rest.
 fn periodic_window(scratch: &[i32], settings: MeanSettings, period: usize) -> i64
     requires { ⌜ MeanAsked settings (now scratch) × PeriodicBorder period (mapOf settings) ⌝ }
@@ -135,5 +125,6 @@ pub(crate) fn first_window(scratch: &[i32], settings: MeanSettings) -> i64
         LineBorderMode::Reflect => periodic_window(scratch, settings, reflected_period(settings.n)),
         LineBorderMode::Replicate => flat_window(scratch, settings),
         LineBorderMode::Constant(_) => flat_window(scratch, settings),
+        LineBorderMode::Wrap => periodic_window(scratch, settings, settings.n),
     }
 }

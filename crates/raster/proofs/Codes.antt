@@ -9,7 +9,7 @@ use lib.Dec.{eqb}
 use Rattle.raster.specs.Border.{borderCode, borderValue, borderFrom, isBorder}
 use Rattle.raster.specs.Direction.{directionIndex, directionFrom}
 use Rattle.raster.specs.declared.border.LineBorderMode.{LineBorderMode}
-use Rattle.raster.specs.declared.border.LineBorderMode.the-variants.{Replicate, Reflect, Constant}
+use Rattle.raster.specs.declared.border.LineBorderMode.the-variants.{Replicate, Reflect, Constant, Wrap}
 use Rattle.raster.specs.declared.direction.RasterDirection4.{RasterDirection4}
 use Rattle.raster.specs.declared.direction.RasterDirection4.the-variants.{Horizontal, DownRight}
 use Rattle.raster.specs.declared.direction.RasterDirection4.the-variants.{Vertical, DownLeft}
@@ -20,6 +20,7 @@ pub from-border : (b : LineBorderMode) → borderFrom (borderCode b) (borderValu
 from-border Replicate = refl
 from-border Reflect = refl
 from-border (Constant v) = refl
+from-border Wrap = refl
 
 pub border-from : (code value : ℕ) → isBorder code value ≡ true
     → (borderCode (borderFrom code value) ≡ code) × (borderValue (borderFrom code value) ≡ value)
@@ -34,7 +35,7 @@ unfolding isBorder
 is-border b =
     rw (from-border b, eq-eqb (borderCode b) (borderCode b) refl, eq-eqb (borderValue b) (borderValue b) refl)
 
--- worked: the value of Replicate and Reflect is 0, of Constant any; 3 is no border's number
+-- worked: the value of Replicate, Reflect and Wrap is 0, of Constant any; 4 is no border's number
 values : map (isBorder 0) (0 ∷ 7 ∷ []) ≡ true ∷ false ∷ []
 unfolding isBorder
 values = refl
@@ -43,7 +44,11 @@ constants : map (isBorder 2) (0 ∷ 7 ∷ []) ≡ true ∷ true ∷ []
 unfolding isBorder
 constants = refl
 
-no-border : map (λ (value : ℕ). isBorder 3 value) (0 ∷ 7 ∷ []) ≡ false ∷ false ∷ []
+wraps : map (isBorder 3) (0 ∷ 7 ∷ []) ≡ true ∷ false ∷ []
+unfolding isBorder
+wraps = refl
+
+no-border : map (isBorder 4) (0 ∷ 7 ∷ []) ≡ false ∷ false ∷ []
 unfolding isBorder
 no-border = refl
 

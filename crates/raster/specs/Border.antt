@@ -5,27 +5,30 @@ use mathlib.Core.Path.{_≡_}
 use lib.Dec.{eqb, ltb}
 use lib.IntN.{ℤ, pos, negsuc}
 use Rattle.raster.specs.declared.border.LineBorderMode.{LineBorderMode}
-use Rattle.raster.specs.declared.border.LineBorderMode.the-variants.{Replicate, Reflect, Constant}
+use Rattle.raster.specs.declared.border.LineBorderMode.the-variants.{Replicate, Reflect, Constant, Wrap}
 use Rattle.raster.specs.declared.border.BorderSample.{BorderSample}
 use Rattle.raster.specs.declared.border.BorderSample.the-variants.{Inside, Outside}
 
 -- ---- document 01, "The 32-byte record": a border's number and its value
 
--- 0 Replicate, 1 Reflect, 2 Constant
+-- 0 Replicate, 1 Reflect, 2 Constant; document 02, K2: Wrap "is value 3 in the record, with border value 0"
 abbrev pub borderCode : LineBorderMode → ℕ
 borderCode Replicate = 0
 borderCode Reflect = 1
 borderCode (Constant v) = 2
+borderCode Wrap = 3
 
 -- 0 unless Constant
 abbrev pub borderValue : LineBorderMode → ℕ
 borderValue Replicate = 0
 borderValue Reflect = 0
 borderValue (Constant v) = v
+borderValue Wrap = 0
 
 -- the border of a number and a value; a number that is no border's stands for Constant
 abbrev pub borderFrom : ℕ → ℕ → LineBorderMode
-borderFrom code value = cond (eqb code 0) Replicate (cond (eqb code 1) Reflect (Constant value))
+borderFrom code value =
+    cond (eqb code 0) Replicate (cond (eqb code 1) Reflect (cond (eqb code 3) Wrap (Constant value)))
 
 -- whether a border has this number and this value
 unfoldable pub isBorder : ℕ → ℕ → Bool
@@ -56,10 +59,12 @@ abbrev pub constant : ℕ → ℕ → ℤ → BorderSample
 constant v n (pos k) = cond (ltb k n) (Inside k) (Outside v)
 constant v n (negsuc k) = Outside v
 
+-- Wrap (document 02, K2) "takes place p mod n on the line"
 unfoldable pub borderMap : LineBorderMode → ℕ → ℤ → BorderSample
 borderMap Replicate n p = Inside (nearer n p)
 borderMap Reflect n p = Inside (reflected n p)
 borderMap (Constant v) n p = constant v n p
+borderMap Wrap n p = Inside (modℤ p n)
 
 -- a place of a line of n, or a byte
 abbrev pub Within : ℕ → BorderSample → Type 0

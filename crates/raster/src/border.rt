@@ -1,6 +1,7 @@
 // The border map: where the sample at a place before, on or behind a line comes from.
+ghost use mathlib.Core.Bool.{cond};
 ghost use mathlib.Core.Path.{_≡_};
-ghost use Prim.Native.Nat.{_%_, _≤_, _<_};
+ghost use Prim.Native.Nat.{_*_, _-_, _%_, _≤_, _<_, max};
 ghost use lib.IntN.{subℕ};
 ghost use Rattle.image.specs.Refusal.{maxSide};
 ghost use Rattle.raster.specs.Border.{borderCode, borderValue, borderFrom, isBorder};
@@ -14,6 +15,8 @@ pub enum LineBorderMode {
     Reflect,
     // A grey value.
     Constant(u8),
+    // The line again: behind its last place comes its first.
+    Wrap,
 }
 
 impl LineBorderMode {
@@ -25,6 +28,7 @@ impl LineBorderMode {
             LineBorderMode::Replicate => 0,
             LineBorderMode::Reflect => 1,
             LineBorderMode::Constant(_) => 2,
+            LineBorderMode::Wrap => 3,
         }
     }
 
@@ -36,6 +40,7 @@ impl LineBorderMode {
             LineBorderMode::Replicate => 0,
             LineBorderMode::Reflect => 0,
             LineBorderMode::Constant(value) => value,
+            LineBorderMode::Wrap => 0,
         }
     }
 
@@ -46,6 +51,7 @@ impl LineBorderMode {
         match code {
             0 => LineBorderMode::Replicate,
             1 => LineBorderMode::Reflect,
+            3 => LineBorderMode::Wrap,
             _ => LineBorderMode::Constant(value),
         }
     }
@@ -79,7 +85,7 @@ fn nearer_end(u: usize, half: usize, length: usize) -> usize
     length - 1
 }
 
-// a mod modulus, without a division for the places within one reflection.
+// a mod modulus, without a division within the first period.
 fn remainder(a: usize, modulus: usize) -> usize
     requires { ⌜ 0 < modulus ⌝ }
     ensures { λ r. ⌜ r ≡ a % modulus ⌝ }
@@ -101,18 +107,41 @@ fn rem_euclid(u: usize, half: usize, modulus: usize) -> usize
     remainder(u - half, modulus)
 }
 
-// The place u - half of the line reflected at its ends.
-fn reflected_place(u: usize, half: usize, length: usize) -> usize
-    requires { ⌜ (0 < length) × (length ≤ maxSide) ⌝ }
-    ensures { λ r. ⌜ r ≡ reflected length (subℕ u half) ⌝ }
+// After how many places a reflected line comes again.
+pub fn reflected_period(length: usize) -> usize
+    requires { ⌜ (1 ≤ length) × (length ≤ maxSide) ⌝ }
+    ensures { λ r. ⌜ r ≡ max 1 (2 * length - 2) ⌝ }
 {
     if length == 1 {
-        return 0;
+        return 1;
     }
-    let period = 2 * length - 2;
+    2 * length - 2
+}
+
+// After how many places a line comes again, reflected or, for the second time, wrapped: so the line and the places
+// about it lie in one period of either border.
+fn long_period(length: usize, wraps: bool) -> usize
+    requires { ⌜ (1 ≤ length) × (length ≤ maxSide) ⌝ }
+    ensures { λ r. ⌜ r ≡ cond wraps (2 * length) (max 1 (2 * length - 2)) ⌝ }
+{
+    if wraps {
+        return 2 * length;
+    }
+    reflected_period(length)
+}
+
+// The place u - half of the line that comes again behind its ends, wrapped or reflected.
+fn periodic_place(u: usize, half: usize, length: usize, wraps: bool) -> usize
+    requires { ⌜ (1 ≤ length) × (length ≤ maxSide) ⌝ }
+    ensures { λ r. ⌜ r ≡ cond wraps (modℤ (subℕ u half) length) (reflected length (subℕ u half)) ⌝ }
+{
+    let period = long_period(length, wraps);
     let remainder = rem_euclid(u, half, period);
     if remainder < length {
         return remainder;
+    }
+    if wraps {
+        return remainder - length;
     }
     period - remainder
 }
@@ -137,7 +166,9 @@ pub fn border_index(u: usize, half: usize, length: usize, border: LineBorderMode
 {
     match border {
         LineBorderMode::Replicate => BorderSample::Inside(nearer_end(u, half, length)),
-        LineBorderMode::Reflect => BorderSample::Inside(reflected_place(u, half, length)),
         LineBorderMode::Constant(value) => constant_sample(u, half, length, value),
+        LineBorderMode::Reflect | LineBorderMode::Wrap => {
+            BorderSample::Inside(periodic_place(u, half, length, border.code() == 3))
+        }
     }
 }

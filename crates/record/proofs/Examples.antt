@@ -91,10 +91,17 @@ directions :
 unfolding is-read accepted bytes readRecord decoded legal recordOf littleEndian ofBits lt
 directions = refl
 
--- border 2, 3; value 7 with Constant, with Replicate
+-- border 2, 3, 4; value 7 with Constant, with Replicate, with Wrap
 borders :
-    map accepted (set bytes 5 2 ∷ set bytes 5 3 ∷ set (set bytes 5 2) 6 7 ∷ set bytes 6 7 ∷ [])
-    ≡ true ∷ false ∷ true ∷ false ∷ []
+    map accepted
+    (set bytes 5 2
+    ∷ set bytes 5 3
+    ∷ set bytes 5 4
+    ∷ set (set bytes 5 2) 6 7
+    ∷ set bytes 6 7
+    ∷ set (set bytes 5 3) 6 7
+    ∷ [])
+    ≡ true ∷ true ∷ false ∷ true ∷ false ∷ false ∷ []
 unfolding is-read accepted bytes readRecord decoded legal recordOf littleEndian ofBits lt
 borders = refl
 

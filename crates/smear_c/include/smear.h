@@ -49,8 +49,8 @@ uint8_t smear_fixed_binomial_unsharp(
 
 /* Restoration of `src` along the direction nearest to `angle`, cut to 0..255, into `dst`. `blur_length` is odd, from 3
  * to 2 * max(width, height) + 1; `iterations` 1 to 22; `relaxation` 0 to 1. `border` is what stands beyond a line's
- * ends: 0 their nearer pixel, 1 the line reflected, any other `border_value`. `scratch` has at least 3 * width * height
- * elements. *direction is the direction taken.
+ * ends: 0 their nearer pixel, 1 the line reflected, 3 the line again, any other `border_value`. `scratch` has at least
+ * 3 * width * height elements. *direction is the direction taken.
  * Refusals: 1 to 4 of the source, 5 of the destination's layout, 6 of two sizes that differ, 7 of the length and the
  * angle, 8 and 9 of the iterations and the relaxation, 10 of a short scratch. */
 uint8_t smear_van_cittert_line(

@@ -19,7 +19,7 @@ use Rattle.raster.specs.Border.{borderMap}
 use Rattle.raster.specs.Direction.{fromAngle}
 use Rattle.raster.specs.Lines.{startCol, startRow, lineOf}
 use Rattle.raster.specs.declared.border.LineBorderMode.{LineBorderMode}
-use Rattle.raster.specs.declared.border.LineBorderMode.the-variants.{Replicate, Reflect}
+use Rattle.raster.specs.declared.border.LineBorderMode.the-variants.{Replicate, Reflect, Wrap}
 use Rattle.raster.specs.declared.border.BorderSample.{BorderSample}
 use Rattle.raster.specs.declared.border.BorderSample.the-variants.{Inside}
 use Rattle.raster.specs.declared.direction.RasterDirection4.{RasterDirection4}
@@ -64,6 +64,10 @@ three-ramps = ramp ++ ramp ++ ramp
 row : List ℕ
 row = 10 ∷ 10 ∷ 40 ∷ 10 ∷ 10 ∷ []
 
+-- K2's row 40 10 10 10 10
+drum : List ℕ
+drum = 40 ∷ 10 ∷ 10 ∷ 10 ∷ 10 ∷ []
+
 -- ---- records on 5 by 1, by their bytes
 
 -- a restoration of length L along Horizontal, one iteration, q 65,536
@@ -107,6 +111,8 @@ data Question : Type 0 where
   row-binomial : Question
   -- document 02, K1: the sheet of a file
   sheet-of : List ℕ → Question
+  -- document 02, K2: the drum's row under Wrap with relaxation 1, uncut, by length and iterations
+  drum-estimated : ℕ → ℕ → Question
 
 data Answer : Type 0 where
   direction : RasterDirection4 → Answer
@@ -115,14 +121,24 @@ data Answer : Type 0 where
   level : ℤ → Answer
   factor : Quantized → Answer
   pixels : List ℕ → Answer
+  levels : List ℤ → Answer
   refused : ℕ → Answer
   planned : JobAnswer → Answer
   sheet : SummaryAnswer → Answer
 
+-- what a call gives, or its refusal
+unless : ℕ → Answer → Answer
+unless zero answer = answer
+unless (suc number) answer = refused (suc number)
+
+-- a row of five
+five : {A : Type 0} → (ℕ → ℕ → A) → List A
+five f = map (λ c. f c 0) (0 ∷ 1 ∷ 2 ∷ 3 ∷ 4 ∷ [])
+
 -- the row's pixels after a call, or the call's refusal
 written : ℕ → (ℕ → ℕ → ℕ) → Answer
-written zero f = pixels (map (λ c. f c 0) (0 ∷ 1 ∷ 2 ∷ 3 ∷ 4 ∷ []))
-written (suc number) f = refused (suc number)
+unfolding unless five
+written number f = unless number (pixels (five f))
 
 -- the row through a line filter, with the scratch that is asked
 filtered : LineFilter → Answer
@@ -131,24 +147,34 @@ filtered f =
     written (deblur.filterRefusal 5 5 1 5 5 5 1 5 (f .refusal 5 1) 15)
     (λ c r. clampByte (calls.lastEstimate (gray8 row 5 1 5) (f .kernel) (f .direction) c r))
 
+-- the drum's row through the estimate call, with the room that is asked
+estimated : LineFilter → Answer
+unfolding drum unless five
+estimated f =
+    unless (deblur.estimateRefusal 5 5 1 5 5 (f .refusal 5 1) 15)
+    (levels (five (calls.lastEstimate (gray8 drum 5 1 5) (f .kernel) (f .direction))))
+
+-- a restoration along Horizontal with relaxation 1
+along-row : ℕ → ℕ → LineBorderMode → LineFilter
+along-row L iterations border =
+    restorationOf
+    (record {
+      «theta_radians» = ofBits binary64 0;
+      «blur_length» = L;
+      iterations = iterations;
+      relaxation = ofBits binary64 0x3ff0_0000_0000_0000;
+      border = border;
+    })
+
 value : Question → Answer
-unfolding three-ramps row written filtered
+unfolding three-ramps row written filtered estimated along-row
 value (direction-of angle) = direction (fromAngle (ofBits binary64 angle))
 value (length-of-ramps minimum) =
     measured (lengthAnswer (lengthDecision (gray8 three-ramps 10 3 10) Horizontal minimum 24 30))
 value (sample-at border n p) = source (borderMap border n p)
 value (mean-of line L p) = level (mean (borderMap Replicate (length line)) (λ i. getD line i (pos 0)) L p)
 value (q-of relaxation) = factor (quantized 1 (ofBits binary64 relaxation))
-value (row-restored iterations) =
-    filtered
-    (restorationOf
-    (record {
-      «theta_radians» = ofBits binary64 0;
-      «blur_length» = 3;
-      iterations = iterations;
-      relaxation = ofBits binary64 0x3ff0_0000_0000_0000;
-      border = Replicate;
-    }))
+value (row-restored iterations) = filtered (along-row 3 iterations Replicate)
 value (row-sharpened gain) =
     filtered
     (unsharpOf
@@ -172,6 +198,7 @@ value (job-on-ramps minimum) =
     90 30)))
 value row-binomial = written (binomialRefusal 5 5 1 5 5 5 1 5 5) (unsharp (pixel row 5) 5 1)
 value (sheet-of file) = sheet (summarized file)
+value (drum-estimated L iterations) = estimated (along-row L iterations Wrap)
 
 -- ---- the list
 
@@ -226,6 +253,15 @@ cases =
       «down_left» = none;
       binomials = 0;
     }))
+    -- K2: of 4 places −1 gives 3, 4 gives 0, −5 gives 3, 9 gives 1
+    ∷ sample-at Wrap 4 (negsuc 0) gives source (Inside 3)
+    ∷ sample-at Wrap 4 (pos 4) gives source (Inside 0)
+    ∷ sample-at Wrap 4 (negsuc 4) gives source (Inside 3)
+    ∷ sample-at Wrap 4 (pos 9) gives source (Inside 1)
+    -- its row: one iteration 60 0 10 10 0, two, uncut, 80 −13 14 14 −13; over a length of 11 one gives 62 5 5 5 5
+    ∷ drum-estimated 3 1 gives levels (pos 60 ∷ pos 0 ∷ pos 10 ∷ pos 10 ∷ pos 0 ∷ [])
+    ∷ drum-estimated 3 2 gives levels (pos 80 ∷ negsuc 12 ∷ pos 14 ∷ pos 14 ∷ negsuc 12 ∷ [])
+    ∷ drum-estimated 11 1 gives levels (pos 62 ∷ pos 5 ∷ pos 5 ∷ pos 5 ∷ pos 5 ∷ [])
     ∷ []
 
 -- ---- the theorem
@@ -233,8 +269,8 @@ cases =
 stars : map (λ c. value (c .asked)) cases ≡ map (λ c. c .must-be) cases
 unfolding cases value ofBits ofInt add sub mul div rem le lt eq fromAngle lengthDecision layoutRefusal pairRefusal
     startCol startRow lineOf swingsFrom levelOf crossedAt placeAt crossingOf riseBetween borderMap iteration.mean window
-    sample total quantized deblur.filterRefusal deblur.blurLengthRefusal deblur.angleRefusal deblur.factorRefusal
-    deblur.iterationsRefusal estimate estimateOn iteration.after iteration.stepped plan jobRefusal pictureDirection
-    estimateOf tensorSums tensorDirection interiorSum rowSum gradientX gradientY binomialRefusal sharper
-    binomialSum tapPlace count summarized readRecord recordOf decoded legal littleEndian
+    sample total quantized deblur.filterRefusal deblur.estimateRefusal deblur.blurLengthRefusal deblur.angleRefusal
+    deblur.factorRefusal deblur.iterationsRefusal estimate estimateOn iteration.after iteration.stepped plan jobRefusal
+    pictureDirection estimateOf tensorSums tensorDirection interiorSum rowSum gradientX gradientY binomialRefusal
+    sharper binomialSum tapPlace count summarized readRecord recordOf decoded legal littleEndian
 stars = refl

@@ -1,6 +1,6 @@
 -- `line::window::first_window` meets its contract.
 use borrow.Author.Needs.{needs}
-use Rattle.line.proofs.BorderShape.{replicate-flat, constant-flat, reflect-periodic}
+use Rattle.line.proofs.BorderShape.{replicate-flat, constant-flat, reflect-periodic, wrap-periodic}
 use Rattle.line.proofs.window.first_window.Statement.{statement}
 use Rattle.line.proofs.window.first_window.Tie as tie
 
@@ -30,6 +30,14 @@ flat-window-requires-2 : tie.Need-flat-window-requires-2
 flat-window-requires-2 c κs =
     let s = c .before .before in (s .pre, rw (c .enum-told3 .given .1) (constant-flat _ (s .args .settings .n)))
 
+enum-told-4 : tie.Need-enum-told-4
+enum-told-4 c = search needs
+
+periodic-window-requires-2 : tie.Need-periodic-window-requires-2
+periodic-window-requires-2 c κs =
+    let s = c .before .before in
+    (s .pre, rw (c .enum-told4 .given .1) (wrap-periodic (s .args .settings .n) (s .pre .some)))
+
 returns : tie.Need-returns
 returns c = search needs
 
@@ -38,6 +46,9 @@ returns-2 c = search needs
 
 returns-3 : tie.Need-returns-3
 returns-3 c = search needs
+
+returns-4 : tie.Need-returns-4
+returns-4 c = search needs
 
 pub first-window-spec : {M : Type 1} → statement M
 first-window-spec =
@@ -50,6 +61,9 @@ first-window-spec =
     flat-window-requires
     enum-told-3
     flat-window-requires-2
+    enum-told-4
+    periodic-window-requires-2
     returns
     returns-2
-    returns-3)
+    returns-3
+    returns-4)

@@ -9,7 +9,7 @@
 /* MOST: pixels of a picture's side; FINE: samples along a pixel's side, at which a label is looked at */
 enum { MOST = 400, FINE = 4, SAMPLES = MOST * FINE, MODULES = 21, REACH = 6 * FINE, TAPS = FINE + 2 * REACH };
 
-static uint8_t src[MOST * MOST], dst[MOST * MOST];
+static uint8_t src[MOST * MOST], dst[MOST * MOST], file[17 + MOST * MOST];
 static int32_t scratch[3 * MOST * MOST];
 static smear_swing swings[MOST * MOST];
 static float label[SAMPLES * SAMPLES], moved[SAMPLES * SAMPLES], narrowed[SAMPLES * MOST];
@@ -19,24 +19,25 @@ static void fail(const char *why, const char *what) {
     exit(1);
 }
 
-/* ---- PGM files, as they are written here */
+/* ---- PGM files of square pictures, through the library */
 
 static void write_pgm(const char *path, const uint8_t *pixels, size_t side) {
-    FILE *file = fopen(path, "wb");
-    if (!file || fprintf(file, "P5\n%zu %zu\n255\n", side, side) < 0 ||
-        fwrite(pixels, 1, side * side, file) != side * side || fclose(file))
+    FILE *out = fopen(path, "wb");
+    size_t length;
+    if (!out || smear_write_pgm(pixels, side * side, side, side, side, file, sizeof file, &length) ||
+        fwrite(file, 1, length, out) != length || fclose(out))
         fail("cannot write", path);
 }
 
 /* into src; answers the side */
 static size_t read_pgm(const char *path) {
-    FILE *file = fopen(path, "rb");
-    size_t side;
-    if (!file || fscanf(file, "P5 %zu %*u 255", &side) != 1 || side > MOST || fgetc(file) != '\n' ||
-        fread(src, 1, side * side, file) != side * side)
+    FILE *in = fopen(path, "rb");
+    size_t width, height, start;
+    if (!in || smear_read_pgm(file, fread(file, 1, sizeof file, in), &width, &height, &start) || width != height)
         fail("cannot read", path);
-    fclose(file);
-    return side;
+    fclose(in);
+    memcpy(src, file + start, width * height);
+    return width;
 }
 
 /* ---- photographs */

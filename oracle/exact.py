@@ -6,18 +6,20 @@ iterations). The exact run is computed here from the document's words alone:
 N(k+1) = S * Nk + q * (L * S^k * B - window sum of Nk). Every estimate and every destination byte must lie within
 demand 3's bounds; the largest error / bound seen is printed for each k. The borders take turns, Wrap among them.
 
-Usage: oracle/exact.py [--seed N] [--count N]     (after rt staticlib smear_c)
+Usage: oracle/exact.py [--seed N] [--count N]     (tools/library.py makes what it calls)
 """
 import argparse
 import ctypes
 import math
 import os
 import random
-import subprocess
 import sys
 from fractions import Fraction
 
 ROOT = os.path.dirname(os.path.dirname(os.path.abspath(__file__)))
+sys.path.insert(0, os.path.join(ROOT, "tools"))
+import library  # noqa: E402
+
 STEPS = [(1, 0), (1, 1), (0, 1), (-1, 1)]
 ANGLES = [0.0, 0.75, 1.5, 2.25]
 BORDERS = ["Replicate", "Reflect", "Constant", "Wrap"]
@@ -25,18 +27,6 @@ BORDERS = ["Replicate", "Reflect", "Constant", "Wrap"]
 
 class Swing(ctypes.Structure):
     _fields_ = [("width", ctypes.c_double), ("swing", ctypes.c_int32)]
-
-
-def library():
-    """The archive as a shared library, which ctypes can load."""
-    archive = os.path.join(ROOT, "target/staticlib/libsmear_c.a")
-    shared = os.path.join(ROOT, "target/oracle/libsmear_c.so")
-    os.makedirs(os.path.dirname(shared), exist_ok=True)
-    whole = ["-Wl,--whole-archive", archive, "-Wl,--no-whole-archive"]
-    subprocess.run(["cc", "-shared", "-o", shared, *whole], check=True)
-    lib = ctypes.CDLL(shared)
-    lib.smear_restore.restype = lib.smear_van_cittert_estimate.restype = ctypes.c_uint8
-    return lib
 
 
 def line_through(x, y, w, h, step):
@@ -97,7 +87,8 @@ def main():
     parser.add_argument("--count", type=int, default=300)
     args = parser.parse_args()
     rng = random.Random(args.seed)
-    lib = library()
+    lib = library.loaded()
+    lib.smear_restore.restype = lib.smear_van_cittert_estimate.restype = ctypes.c_uint8
     worst, accepted, refused, by_border = {}, 0, {}, [0, 0, 0, 0]
     while accepted < args.count:
         w, h = rng.randint(3, 14), rng.randint(3, 14)

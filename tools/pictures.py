@@ -1,9 +1,12 @@
-"""Grey pictures: PGM (P2, P5) and PNG to rows of bytes and back. Standard library alone."""
+"""Grey pictures: PGM (P2, P5) and PNG to rows of bytes and back; P5 by the proved library (pgm), the others here."""
 import os
 import re
 import struct
 import zlib
 from dataclasses import dataclass
+
+import pgm
+from records import Refused
 
 PNG_MARK = b"\x89PNG\r\n\x1a\n"
 # colour type: samples of a pixel
@@ -13,7 +16,7 @@ MOST_PIXELS = 1 << 26
 
 
 class Unreadable(Exception):
-    """A file that is no picture that is read here, with the reason."""
+    """A file that is no picture that is read or written here, with the reason."""
 
 
 @dataclass(frozen=True)
@@ -41,8 +44,8 @@ def sized(width, height):
 # ---- PGM
 
 
-# "P2" or "P5", then width, height and greatest value, with comments between them
-PGM_HEADER = re.compile(rb"P[25]" + 3 * rb"(?:\s|#[^\n]*\n)+(\d{1,9})" + rb"\s")
+# "P2", then width, height and greatest value, with comments between them
+PLAIN_HEADER = re.compile(rb"P2" + 3 * rb"(?:\s|#[^\n]*\n)+(\d{1,9})" + rb"\s")
 
 
 def plain_values(text, count):
@@ -54,16 +57,16 @@ def plain_values(text, count):
     return [int(word) for word in words]
 
 
-def read_pgm(data):
-    header = PGM_HEADER.match(data)
+def read_plain_pgm(data):
+    header = PLAIN_HEADER.match(data)
     if not header:
         raise Unreadable("PGM: no width, height and greatest value")
     width, height, most = map(int, header.groups())
     sized(width, height)
     if not 1 <= most <= 255:
         raise Unreadable(f"PGM: greatest value {most}; only 1 to 255 is read")
-    body, count = data[header.end() :], width * height
-    values = body[:count] if data[:2] == b"P5" else plain_values(body, count)
+    count = width * height
+    values = plain_values(data[header.end() :], count)
     if len(values) < count:
         raise Unreadable(f"PGM: {len(values)} pixels, not {count}")
     if max(values) > most:
@@ -71,8 +74,12 @@ def read_pgm(data):
     return Picture(width, height, bytes((value * 255 + most // 2) // most for value in values))
 
 
+def read_pgm(data):
+    return Picture(*pgm.read(data))
+
+
 def write_pgm(picture):
-    return b"P5\n%d %d\n255\n" % (picture.width, picture.height) + picture.pixels
+    return pgm.write(picture.width, picture.height, picture.pixels)
 
 
 # ---- PNG
@@ -202,28 +209,41 @@ def write_png(picture):
 # ---- files
 
 
+READERS = {PNG_MARK: read_png, b"P2": read_plain_pgm, b"P5": read_pgm}
+WRITERS = {".pgm": write_pgm, ".png": write_png}
+
+
 def read(path):
     """The picture in a file, whose first bytes say what it is."""
     with open(path, "rb") as file:
         data = file.read()
-    if data.startswith(PNG_MARK):
-        return read_png(data)
-    if data[:2] in (b"P2", b"P5"):
-        return read_pgm(data)
-    raise Unreadable(f"{path} is neither PGM (P2, P5) nor PNG")
+    reader = next((reader for mark, reader in READERS.items() if data.startswith(mark)), None)
+    if reader is None:
+        raise Unreadable(f"{path} is neither PGM (P2, P5) nor PNG")
+    try:
+        return reader(data)
+    except (Unreadable, Refused) as error:
+        raise Unreadable(f"{path}: {error}") from None
 
 
 def write(path, picture):
     """Writes the picture as its file name's ending says."""
-    writers = {".pgm": write_pgm, ".png": write_png}
-    ending = os.path.splitext(path)[1].lower()
-    if ending not in writers:
+    writer = WRITERS.get(os.path.splitext(path)[1].lower())
+    if writer is None:
         raise Unreadable(f"{path} ends neither in .pgm nor in .png")
+    try:
+        data = writer(picture)
+    except Refused as error:
+        raise Unreadable(f"{path}: {error}") from None
     with open(path, "wb") as file:
-        file.write(writers[ending](picture))
+        file.write(data)
 
 
 def add_crop(parser):
     parser.add_argument(
-        "--crop", type=int, nargs=4, metavar=("X", "Y", "W", "H"), help="only the W by H pixels whose first is (X, Y)"
+        "--crop",
+        type=int,
+        nargs=4,
+        metavar=("X", "Y", "W", "H"),
+        help="only the W by H pixels whose first is (X, Y); a P5 above 1,024 pixels a side is refused all the same",
     )

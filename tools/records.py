@@ -18,7 +18,7 @@ FACTOR_NAMES = {RESTORATION: "relaxation", UNSHARP: "gain"}
 
 
 class Refused(Exception):
-    """A refusal of document 01, by its number, with the reason."""
+    """A refusal of the documents, by its number, with the reason."""
 
     def __init__(self, number, reason):
         super().__init__(f"refused {number}: {reason}")

@@ -1,12 +1,16 @@
 //! ns per pixel (and iteration, where there are some) of the proved library and of the Rust original, and their ratio.
-//! What the original has not stands beside another: the sheet, per record, beside the oracle's plain restatement, and
-//! restoration with Wrap beside our own with Reflect (the rows `wrap`).
+//! What the original has not stands beside another: the sheet, per record, and reading of PGM headers, per byte, beside
+//! the oracle's plain restatements, writing of PGM beside a copy of the rows, and restoration with Wrap beside our own
+//! with Reflect (the rows `wrap`).
 //! Each row is the least of several rounds in which the two take turns. Buffers are warm and not cleared between runs.
 //! Time is that of the thread, so that of other work on the machine only what it does to the caches counts.
 
 #[allow(dead_code)]
 #[path = "../../bindings/src/raw.rs"]
 mod ffi;
+#[allow(dead_code)]
+#[path = "../../oracle/src/pgm.rs"]
+mod pgm;
 #[allow(dead_code)]
 #[path = "../../oracle/src/random.rs"]
 mod random;
@@ -149,6 +153,8 @@ fn main() {
     wraps(&only, data, &mut dst);
     whole_jobs(&only, data, &mut dst, &mut other);
     sheets(&only);
+    pgm_headers(&only, data);
+    pgm_writing(&only, data, &mut other);
 }
 
 const DIRECTIONS: [(&str, f64); 4] = [("Horizontal", 0.0), ("DownRight", 0.75), ("Vertical", 1.5), ("DownLeft", 2.25)];
@@ -331,4 +337,72 @@ fn sheets(only: &str) {
             black_box(sheet::sheet(black_box(&records))).unwrap();
         },
     );
+}
+
+/// PGM headers: of one pixel and of the largest picture, and long ones. What a row has of each byte is the same where
+/// reading costs the header's length.
+fn pgm_headers(only: &str, data: &[u8]) {
+    let long = |start: &str, part: &str| format!("{start}{}", part.repeat(1_000_000));
+    for (name, header, pixels) in [
+        ("header of 11 bytes", "P5 1 1 255 ".into(), 1),
+        ("header of 17 bytes", "P5\n1024\n1024\n255\n".into(), PIXELS),
+        ("1,000,000 blanks", long("P5", " ") + "1 1 255 ", 1),
+        ("comment of 1,000,000", long("P5#", "x") + "\n1 1 255 ", 1),
+        ("1,000,000 comments", long("P5", "#\n") + "1 1 255 ", 1),
+        ("1,000,000 zeros", long("P5 ", "0") + "1 1 255 ", 1),
+        // a side of so many digits is refused
+        ("1,000,000 nines", long("P5 ", "9") + " 1 255 ", 1),
+    ] {
+        let file = [header.as_bytes(), &data[..pixels]].concat();
+        let times = PIXELS.div_ceil(header.len());
+        row(
+            only,
+            &format!("pgm read, {name}, ns a byte"),
+            times * header.len(),
+            || {
+                for _ in 0..times {
+                    let (mut width, mut height, mut start) = (0, 0, 0);
+                    unsafe { smear_read_pgm(file.as_ptr(), file.len(), &mut width, &mut height, &mut start) };
+                    black_box((width, height, start));
+                }
+            },
+            || {
+                for _ in 0..times {
+                    let _ = black_box(pgm::read(black_box(&file)));
+                }
+            },
+        );
+    }
+}
+
+/// Pictures as PGM beside a copy of their rows. Within twice that is a ratio from 0.5.
+fn pgm_writing(only: &str, data: &[u8], copy: &mut [u8]) {
+    let mut file = vec![0; 17 + PIXELS];
+    for (width, height, stride) in [(64, 64, 64), (SIDE, SIDE, SIDE), (1000, 1000, SIDE)] {
+        let times = PIXELS / (width * height);
+        row(
+            only,
+            &format!("pgm write, {width} by {height}, stride {stride}"),
+            times * width * height,
+            || {
+                for _ in 0..times {
+                    let mut written = 0;
+                    unsafe {
+                        smear_write_pgm(
+                            data.as_ptr(), PIXELS, width, height, stride, file.as_mut_ptr(), file.len(), &mut written,
+                        );
+                    }
+                    black_box(written);
+                }
+            },
+            || {
+                for _ in 0..times {
+                    let rows = black_box(data).chunks(stride);
+                    for (to, from) in copy.chunks_exact_mut(width).take(height).zip(rows) {
+                        to.copy_from_slice(&from[..width]);
+                    }
+                }
+            },
+        );
+    }
 }

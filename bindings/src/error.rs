@@ -49,6 +49,21 @@ pub struct FaultyRecord {
     pub index: usize,
 }
 
+/// A PGM file that is refused, or that there is no room for.
+#[derive(Clone, Copy, Debug, PartialEq, Eq)]
+pub enum PgmError {
+    /// Refusals 1 and 2: a side is zero or exceeds 1,024.
+    Layout(LumaError),
+    /// Refusal 5: the slice that the file is written to is too short.
+    OutputTooSmall,
+    /// Refusal 14: the header is none of P5.
+    InvalidHeader,
+    /// Refusal 15: the greatest grey level is not 255.
+    UnsupportedMaximum,
+    /// Refusal 16: there are fewer or more pixel bytes than pixels.
+    PixelCountMismatch,
+}
+
 /// What a call answers.
 pub type ImgProcResult<T> = Result<T, ImgProcError>;
 
@@ -90,10 +105,23 @@ impl fmt::Display for FaultyRecord {
     }
 }
 
+impl fmt::Display for PgmError {
+    fn fmt(&self, f: &mut fmt::Formatter<'_>) -> fmt::Result {
+        f.write_str(match self {
+            Self::Layout(error) => return error.fmt(f),
+            Self::OutputTooSmall => "output is too small for the PGM file",
+            Self::InvalidHeader => "PGM header is invalid",
+            Self::UnsupportedMaximum => "PGM maximum is not 255",
+            Self::PixelCountMismatch => "PGM has missing or surplus pixel bytes",
+        })
+    }
+}
+
 impl Error for LumaError {}
 impl Error for ImageError {}
 impl Error for ImgProcError {}
 impl Error for FaultyRecord {}
+impl Error for PgmError {}
 
 impl From<LumaError> for ImageError {
     fn from(value: LumaError) -> Self {
@@ -110,6 +138,12 @@ impl From<ImageError> for ImgProcError {
 impl From<LumaError> for ImgProcError {
     fn from(value: LumaError) -> Self {
         Self::Image(value.into())
+    }
+}
+
+impl From<LumaError> for PgmError {
+    fn from(value: LumaError) -> Self {
+        Self::Layout(value)
     }
 }
 

@@ -138,3 +138,22 @@ pub fn summarize(records: &[u8]) -> (u8, [u64; 21], usize) {
         unsafe { raw::smear_summarize(records.as_ptr(), records.len(), sheet.as_mut_ptr(), sheet.len(), &mut index) };
     (refusal, sheet, index)
 }
+
+/// The refusal, and the picture's width, height and where in the file its pixels start.
+pub fn read_pgm(file: &[u8]) -> (u8, (usize, usize, usize)) {
+    let (mut width, mut height, mut start) = (0, 0, 0);
+    let refusal = unsafe { raw::smear_read_pgm(file.as_ptr(), file.len(), &mut width, &mut height, &mut start) };
+    (refusal, (width, height, start))
+}
+
+/// The refusal, and how many bytes were written.
+pub fn write_pgm(src: Gray8View<'_>, out: &mut [u8]) -> (u8, usize) {
+    let mut written = 0;
+    let refusal = unsafe {
+        raw::smear_write_pgm(
+            src.bytes().as_ptr(), src.bytes().len(), src.width(), src.height(), src.stride(),
+            out.as_mut_ptr(), out.len(), &mut written,
+        )
+    };
+    (refusal, written)
+}

@@ -10,8 +10,9 @@
 //! | `qr_lab_imgproc::{blur, deblur, sharpen}` | `smear::{blur, deblur, sharpen}` |
 //! | `qr_lab_imgproc::{ImgProcError, ImgProcResult}` | `smear::{ImgProcError, ImgProcResult}` |
 //!
-//! Added are [`job::restore`], [`deblur::van_cittert_estimate_into`], the border [`deblur::LineBorderMode::Wrap`] and
-//! [`summary::summarize`]. Sides of more than 1,024 pixels and more than 22 iterations are refused.
+//! Added are [`job::restore`], [`deblur::van_cittert_estimate_into`], the border [`deblur::LineBorderMode::Wrap`],
+//! [`summary::summarize`], [`pgm::read`] and [`pgm::write`]. Sides of more than 1,024 pixels and more than 22
+//! iterations are refused.
 
 #![deny(unsafe_code)]
 #![warn(missing_docs)]
@@ -22,11 +23,12 @@ mod error;
 #[allow(unsafe_code)]
 mod ffi;
 pub mod job;
+pub mod pgm;
 #[allow(dead_code)] // all that the header declares
 mod raw;
 pub mod sharpen;
 pub mod summary;
 mod view;
 
-pub use error::{FaultyRecord, ImageError, ImgProcError, ImgProcResult, LumaError};
+pub use error::{FaultyRecord, ImageError, ImgProcError, ImgProcResult, LumaError, PgmError};
 pub use view::{Gray8View, Gray8ViewMut, Size};

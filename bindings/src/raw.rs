@@ -67,4 +67,13 @@ extern "C" {
     pub fn smear_summarize(
         records: *const u8, records_len: usize, sheet: *mut u64, sheet_len: usize, index: *mut usize,
     ) -> u8;
+
+    pub fn smear_read_pgm(
+        file: *const u8, file_len: usize, width: *mut usize, height: *mut usize, start: *mut usize,
+    ) -> u8;
+
+    pub fn smear_write_pgm(
+        src: *const u8, src_len: usize, width: usize, height: usize, stride: usize,
+        out: *mut u8, out_len: usize, written: *mut usize,
+    ) -> u8;
 }

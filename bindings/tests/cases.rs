@@ -8,9 +8,10 @@ use smear::deblur::{
     DirectionalUnsharpConfig, LineBorderMode, VanCittertConfig,
 };
 use smear::job::{restore, JobConfig, JobWorkspace};
+use smear::pgm;
 use smear::sharpen::{fixed_binomial_unsharp_into, SharpenWorkspace};
 use smear::summary::{summarize, DirectionSummary, RecordSummary};
-use smear::{Gray8View, Gray8ViewMut, ImgProcError};
+use smear::{Gray8View, Gray8ViewMut, ImgProcError, Size};
 
 const ROW: [u8; 5] = [10, 10, 40, 10, 10];
 
@@ -249,4 +250,65 @@ fn the_sheet_over_no_record() {
     let none = DirectionSummary { count: 0, total: 0, largest: 0, mean: 0, remainder: 0 };
     let summary = RecordSummary { horizontal: none, down_right: none, vertical: none, down_left: none, binomials: 0 };
     assert_eq!(summarize(&[]), Ok(summary));
+}
+
+/// The size and the pixels of the picture in a PGM file that is read.
+fn read_pgm(file: &[u8]) -> (Size, Vec<u8>) {
+    let view = pgm::read(file).unwrap();
+    (view.size(), (0..view.height()).flat_map(|y| view.row(y)).copied().collect())
+}
+
+/// Document 02, K3.
+#[test]
+fn a_row_as_pgm() {
+    let file = [0x50, 0x35, 0x0A, 0x35, 0x0A, 0x31, 0x0A, 0x32, 0x35, 0x35, 0x0A, 0x0A, 0x0A, 0x28, 0x0A, 0x0A];
+    let mut out = [7; 18];
+    assert_eq!(pgm::write(Gray8View::new(&ROW, 5, 1, 5).unwrap(), &mut out), Ok(16));
+    assert_eq!((&out[..16], &out[16..]), (&file[..], &[7, 7][..]));
+    assert_eq!(read_pgm(&file), (Size { width: 5, height: 1 }, ROW.to_vec()));
+    // the pixels are the file's own
+    assert_eq!(pgm::read(&file).unwrap().row(0).as_ptr(), file[11..].as_ptr());
+}
+
+#[test]
+fn headers_of_pgm() {
+    let zeros = "0".repeat(300);
+    for header in [
+        "P5 5 1 255\n",
+        "P5\t5\r1\n255\t",
+        "P5 \t\n\r5\r\n1  255 ",
+        // a comment is a separator, and its end too, be it LF or CR
+        "P5#a\r5#b\n1 \t255 ",
+        "P5#\n#\r #P5 1 1 255 \n5 #1\n#\n1#255\r255\r",
+        "P5 0005 01 0255\n",
+        &format!("P5 {zeros}5 {zeros}1 {zeros}255\n"),
+    ] {
+        let read = read_pgm(&[header.as_bytes(), &ROW].concat());
+        assert_eq!(read, (Size { width: 5, height: 1 }, ROW.to_vec()), "{header}");
+    }
+    // all behind the first white byte is pixels
+    for (file, pixels) in [("P5 1 1 255 #", "#"), ("P5 3 1 255 #c\n", "#c\n"), ("P5 1 2 255\r\n7", "\n7")] {
+        assert_eq!(read_pgm(file.as_bytes()).1, pixels.as_bytes(), "{file}");
+    }
+}
+
+#[test]
+fn pictures_as_pgm() {
+    // 3 by 2 with 2 bytes of padding and one behind
+    let bytes = [1, 2, 3, 99, 99, 4, 5, 6, 99];
+    let mut out = [7; 20];
+    assert_eq!(pgm::write(Gray8View::new(&bytes, 3, 2, 5).unwrap(), &mut out), Ok(17));
+    assert_eq!(&out, b"P5\n3\n2\n255\n\x01\x02\x03\x04\x05\x06\x07\x07\x07");
+    // no number has a leading zero
+    for (height, header) in [(9, "P5\n1\n9\n255\n"), (10, "P5\n1\n10\n255\n"), (100, "P5\n1\n100\n255\n")] {
+        let mut out = [7; 120];
+        let length = pgm::write(Gray8View::new(&[8; 100], 1, height, 1).unwrap(), &mut out).unwrap();
+        assert_eq!(&out[..length], [header.as_bytes(), &vec![8; height]].concat());
+    }
+    // the largest has the longest header
+    let largest: Vec<u8> = (0..1024 * 1024).map(|place| (place % 251) as u8).collect();
+    let mut out = vec![7; pgm::LONGEST_HEADER + largest.len()];
+    assert_eq!(pgm::write(Gray8View::new(&largest, 1024, 1024, 1024).unwrap(), &mut out), Ok(out.len()));
+    assert_eq!(&out[..17], b"P5\n1024\n1024\n255\n");
+    assert!(read_pgm(&out) == (Size { width: 1024, height: 1024 }, largest));
 }

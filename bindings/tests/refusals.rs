@@ -10,9 +10,10 @@ use smear::deblur::{
     DirectionalUnsharpConfig, VanCittertConfig,
 };
 use smear::job::{restore, JobConfig, JobWorkspace};
+use smear::pgm;
 use smear::sharpen::{fixed_binomial_unsharp_into, SharpenWorkspace};
 use smear::summary::summarize;
-use smear::{FaultyRecord, Gray8View, Gray8ViewMut, ImgProcError, ImgProcResult, LumaError};
+use smear::{FaultyRecord, Gray8View, Gray8ViewMut, ImgProcError, ImgProcResult, LumaError, PgmError};
 
 const BYTES: [u8; 5] = [10, 10, 40, 10, 10];
 
@@ -308,4 +309,150 @@ fn room_for_a_sheet_in_c() {
         // the index is the one thing that a refusal writes
         assert_eq!(summarized(&faulty, room), (13, vec![7; room], 1));
     }
+}
+
+/// The C call on a file: what it returns, and what then stands in its out-parameters.
+fn read_pgm(file: &[u8]) -> (u8, [usize; 3]) {
+    let [mut width, mut height, mut start] = [77, 78, 79];
+    let refusal = unsafe { raw::smear_read_pgm(file.as_ptr(), file.len(), &mut width, &mut height, &mut start) };
+    (refusal, [width, height, start])
+}
+
+/// The file is refused with this number, which the crate says as this error.
+fn refused_pgm(file: &[u8], number: u8, error: PgmError) {
+    assert_eq!(read_pgm(file), (number, [77, 78, 79]), "{}", file.escape_ascii());
+    assert_eq!(pgm::read(file).err(), Some(error), "{}", file.escape_ascii());
+}
+
+#[test]
+fn headers_that_are_none_of_pgm() {
+    let refused = |file: &[u8]| refused_pgm(file, 14, PgmError::InvalidHeader);
+    for magic in ["", "P", "5", "p5", "P2", "P4", "P6", "PP5", " P5", "\nP5", "#\nP5"] {
+        refused(format!("{magic} 1 1 255 x").as_bytes());
+    }
+    // of what is between two numbers only these bytes and comments are white
+    for byte in 0..=255 {
+        let separated = [&b"P5 1"[..], &[byte], b"1 255 x"].concat();
+        match byte {
+            b' ' | b'\t' | b'\n' | b'\r' => assert_eq!(read_pgm(&separated), (0, [1, 1, 11])),
+            // also a digit, which makes one number of two: then x is the maximum
+            _ => refused(&separated),
+        }
+    }
+    for file in [
+        "P51 1 255 x", "P5x1 1 255 x", "P5 1x 1 255 x", "P5 1 1 0xFF x", "P5 -1 1 255 x", "P5 +1 1 255 x",
+        "P5 1,1 255 x", "P5 1. 1 255 x", "P5 1 1 255x", "P5 1 1 255\0x", "P5 1 1 255\x0Bx", "P5 \x0C1 1 255 x",
+        // behind the maximum there is no comment
+        "P5 1 1 255#", "P5 1 1 255#\nx", "P5 1 1 255#c\n x",
+        // comments without an end
+        "P5#", "P5 #1 1 255 x", "P5 1 # 1 255 x", "P5 1 1 # 255 x",
+    ] {
+        refused(file.as_bytes());
+    }
+}
+
+#[test]
+fn every_part_of_a_pgm_file_that_ends_early() {
+    let file = b"P5 #c\r5\n1\t255\n\x0A\x0A\x28\x0A\x0A";
+    for end in 0..14 {
+        refused_pgm(&file[..end], 14, PgmError::InvalidHeader);
+    }
+    for end in 14..19 {
+        refused_pgm(&file[..end], 16, PgmError::PixelCountMismatch);
+    }
+    assert_eq!(read_pgm(file), (0, [5, 1, 14]));
+    refused_pgm(&[&file[..], b"\n"].concat(), 16, PgmError::PixelCountMismatch);
+}
+
+#[test]
+fn numbers_of_pgm() {
+    let empty = PgmError::Layout(LumaError::EmptyDimensions);
+    let large = PgmError::Layout(LumaError::DimensionsTooLarge);
+    let many = "9".repeat(300);
+    // 2^64, and 2^64 with 5, 255 and 1,024 more
+    let wrapping = [
+        "18446744073709551616", "18446744073709551621", "18446744073709551871", "18446744073709552640", &many,
+    ];
+    for zero in ["0", "000"] {
+        refused_pgm(format!("P5 {zero} 1 255 x").as_bytes(), 1, empty);
+        refused_pgm(format!("P5 1 {zero} 255 x").as_bytes(), 1, empty);
+    }
+    for side in ["1025", "01025", "10240"].iter().chain(&wrapping) {
+        refused_pgm(format!("P5 {side} 1 255 x").as_bytes(), 2, large);
+        refused_pgm(format!("P5 1 {side} 255 x").as_bytes(), 2, large);
+        // a side of 0 comes first
+        refused_pgm(format!("P5 {side} 0 255 x").as_bytes(), 1, empty);
+        refused_pgm(format!("P5 0 {side} 255 x").as_bytes(), 1, empty);
+    }
+    for maximum in ["0", "1", "254", "256", "2550", "65535"].iter().chain(&wrapping) {
+        refused_pgm(format!("P5 1 1 {maximum} x").as_bytes(), 15, PgmError::UnsupportedMaximum);
+    }
+    for side in [1023, 1024] {
+        let pixels = "x".repeat(side);
+        assert_eq!(read_pgm(format!("P5 {side} 1 255 {pixels}").as_bytes()), (0, [side, 1, 14]));
+        assert_eq!(read_pgm(format!("P5 1 {side} 255 {pixels}").as_bytes()), (0, [1, side, 14]));
+    }
+}
+
+/// Document 02's examples of what comes before what.
+#[test]
+fn order_of_refusals_of_pgm() {
+    refused_pgm(b"P5 0 1 255", 14, PgmError::InvalidHeader);
+    refused_pgm(b"P5 0 1025 7\n", 1, PgmError::Layout(LumaError::EmptyDimensions));
+    refused_pgm(b"P5 1025 1 7\n", 2, PgmError::Layout(LumaError::DimensionsTooLarge));
+    refused_pgm(b"P5 1 1 7\n", 15, PgmError::UnsupportedMaximum);
+    refused_pgm(b"P5 1 1 255\n", 16, PgmError::PixelCountMismatch);
+    refused_pgm(b"P5 1 1 255\r\nx", 16, PgmError::PixelCountMismatch);
+}
+
+#[test]
+fn room_for_a_pgm_file() {
+    let src = Gray8View::new(&BYTES, 5, 1, 5).unwrap();
+    for room in 0..16 {
+        let mut out = vec![77; room];
+        assert_eq!(pgm::write(src, &mut out), Err(PgmError::OutputTooSmall));
+        assert_eq!(out, vec![77; room]);
+    }
+    assert_eq!(pgm::write(src, &mut [77; 16]), Ok(16));
+}
+
+#[test]
+fn sources_of_a_pgm_file_in_c() {
+    // what the call returns, and what then stands in its out-parameter and in the room
+    let write = |src: &[u8], width, height, stride, room: usize| {
+        let (mut out, mut written) = (vec![77; room], 78);
+        let refusal = unsafe {
+            raw::smear_write_pgm(
+                src.as_ptr(), src.len(), width, height, stride, out.as_mut_ptr(), room, &mut written,
+            )
+        };
+        (refusal, written, out)
+    };
+    // no room is refused behind the source
+    for room in [0, 11, 12, 20] {
+        let refused = |number| (number, 78, vec![77; room]);
+        assert_eq!(write(&[9; 4], 0, 1025, 0, room), refused(1));
+        assert_eq!(write(&[9; 4], 1, 0, 1, room), refused(1));
+        assert_eq!(write(&[9; 4], 1025, 1, 1, room), refused(2));
+        assert_eq!(write(&[9; 4], 1, 1025, 0, room), refused(2));
+        assert_eq!(write(&[9; 4], 2, 3, 1, room), refused(3));
+        assert_eq!(write(&[9; 4], 2, 2, 3, room), refused(4));
+        assert_eq!(write(&[9; 4], 1, 3, usize::MAX, room), refused(4));
+        assert_eq!(write(&[9; 4], 2, 2, 2, room).0, if room < 15 { 5 } else { 0 });
+    }
+    assert_eq!(write(&[9; 4], 1, 1, 4, 11), (5, 78, vec![77; 11]));
+    assert_eq!(write(&[9; 4], 1, 1, 4, 14), (0, 12, b"P5\n1\n1\n255\n\x09MM".to_vec()));
+}
+
+/// A null pointer with length 0 is an empty slice.
+#[test]
+fn nothing_in_c() {
+    let [mut width, mut height, mut start, mut written] = [77; 4];
+    unsafe {
+        assert_eq!(raw::smear_read_pgm(std::ptr::null(), 0, &mut width, &mut height, &mut start), 14);
+        let nowhere = std::ptr::null_mut();
+        assert_eq!(raw::smear_write_pgm(std::ptr::null(), 0, 1, 1, 1, nowhere, 0, &mut written), 4);
+        assert_eq!(raw::smear_write_pgm(BYTES.as_ptr(), 5, 5, 1, 5, nowhere, 0, &mut written), 5);
+    }
+    assert_eq!([width, height, start, written], [77; 4]);
 }

@@ -3,8 +3,8 @@
 //! smallest-outside, smallest-no-row`), and `bindings/tests` has what the crate for Rust does.
 
 use crate::ffi::{
-    smear_estimate_line_direction, smear_restore, smear_run, smear_summarize, smear_van_cittert_estimate,
-    smear_van_cittert_line, Swing,
+    smear_estimate_line_direction, smear_read_pgm, smear_restore, smear_run, smear_summarize,
+    smear_van_cittert_estimate, smear_van_cittert_line, smear_write_pgm, Swing,
 };
 use qr_lab_image::{Gray8View, Gray8ViewMut, LumaError};
 use qr_lab_imgproc::blur::{estimate_line_direction, DirectionEstimate, RasterDirection4};
@@ -12,7 +12,7 @@ use qr_lab_imgproc::deblur::{van_cittert_line_into, LineBorderMode, VanCittertCo
 use qr_lab_imgproc::ImgProcError;
 use std::panic::{catch_unwind, set_hook, take_hook, AssertUnwindSafe};
 
-const ROWS: [(&str, fn()); 11] = [
+const ROWS: [(&str, fn()); 12] = [
     ("a picture of more than 1,024 pixels a side", sides),
     ("a layout that is refused", layout),
     ("more than 22 iterations", iterations),
@@ -24,6 +24,7 @@ const ROWS: [(&str, fn()); 11] = [
     ("the estimate call, the whole job, records and the program", added),
     ("the round sheet", round_sheet),
     ("the wrapping border", wrapping),
+    ("pictures as PGM", pgm),
 ];
 
 /// Ends with a panic where a row is not as docs/DIFFERENCES.md has it.
@@ -206,4 +207,19 @@ fn wrapping() {
     for row in [&[4][..], &[1, 4]] {
         assert_eq!(our_wrapped_row(row), theirs(row, LineBorderMode::Reflect));
     }
+}
+
+fn pgm() {
+    let (mut width, mut height, mut start) = (0, 0, 0);
+    let mut read = |file: &[u8]| unsafe {
+        (smear_read_pgm(file.as_ptr(), file.len(), &mut width, &mut height, &mut start), [width, height, start])
+    };
+    assert_eq!(read(b"P"), (14, [0, 0, 0]));
+    assert_eq!(read(b"P5 1 1 255 \x07"), (0, [1, 1, 11]));
+    let (mut out, mut written) = ([0; 12], 0);
+    let mut write = |room| unsafe {
+        smear_write_pgm([7].as_ptr(), 1, 1, 1, 1, out.as_mut_ptr(), room, &mut written)
+    };
+    assert_eq!((write(11), write(12)), (5, 0));
+    assert_eq!((&out, written), (b"P5\n1\n1\n255\n\x07", 12));
 }

@@ -1,7 +1,7 @@
 //! Compares the proved library with the Rust original: the same inputs, from a seeded generator, through the C
-//! interface. What the original has not is compared with a plain restatement: the sheet (`sheet`) and the line filters
-//! with Wrap (`line`), which are counted by themselves. Ends with status 1 at the first difference, which it prints as
-//! small as it can make it; intended ones are shown first (`differences`).
+//! interface. What the original has not is compared with a plain restatement: the sheet (`sheet`), PGM files (`pgm`),
+//! and the line filters with Wrap (`line`), which are counted by themselves. Ends with status 1 at the first
+//! difference, which it prints as small as it can make it; intended ones are shown first (`differences`).
 
 mod angle;
 mod binomial;
@@ -14,9 +14,11 @@ mod ffi;
 mod job;
 mod length;
 mod line;
+mod pgm;
 mod picture;
 mod program;
 mod random;
+mod read_pgm;
 mod reader;
 mod record;
 mod restoration;
@@ -24,6 +26,7 @@ mod settings;
 mod sheet;
 mod summarize;
 mod vectors;
+mod write_pgm;
 
 use case::Tally;
 use random::Random;
@@ -38,7 +41,7 @@ const USAGE: &str = "usage: oracle [--seed N] [--count N] [--only CALL]
 
 type Compare = fn(&mut Random, usize, &mut Tally);
 
-const CALLS: [(&str, Compare); 21] = [
+const CALLS: [(&str, Compare); 28] = [
     ("from_angle", angle::compare),
     ("estimate_line_direction", direction::compare),
     ("estimate_line_length", length::compare),
@@ -60,6 +63,13 @@ const CALLS: [(&str, Compare); 21] = [
     ("summarize: borders", summarize::borders),
     ("summarize: limits", summarize::limits),
     ("summarize: reordered", summarize::reordered),
+    ("read_pgm: headers", read_pgm::headers),
+    ("read_pgm: changed bytes", read_pgm::changes),
+    ("read_pgm: prefixes", read_pgm::prefixes),
+    ("read_pgm: short files", read_pgm::short),
+    ("read_pgm: limits", read_pgm::limits),
+    ("write_pgm: pictures", write_pgm::pictures),
+    ("write_pgm: sides", write_pgm::sides),
 ];
 
 fn usage() -> ! {

@@ -121,10 +121,42 @@ class Commands(unittest.TestCase):
         self.assertIn("fewer than", self.run_tool("picture", "from-raw", "back.raw", "5", "1", "out.png", status=1))
         self.assertIn("neither PGM", self.run_tool("picture", "to-raw", "picture.raw", status=1))
 
+    def test_binary_pgm(self):
+        # document 02, K3
+        self.file("row.raw", bytes([10, 10, 40, 10, 10]))
+        self.run_tool("picture", "from-raw", "row.raw", "5", "1", "row.pgm")
+        self.assertEqual(self.file("row.pgm"), bytes.fromhex("50350A350A310A3235350A0A0A280A0A"))
+        self.file("row.pgm", b"P5#a\r5#b\n1 \t255 " + bytes([10, 10, 40, 10, 10]))
+        self.run_tool("picture", "to-raw", "row.pgm", "back.raw", "--crop", "1", "0", "3", "1")
+        self.assertEqual(self.file("back.raw"), bytes([10, 40, 10]))
+
+    def test_binary_pgm_that_is_refused(self):
+        for data, words in [
+            (b"P5 5 1 255#c\n", "refused 14: byte 10 is '#', where the one white byte behind the maximum belongs"),
+            (b"P5 0 1 255\n", "refused 1: width 0 (byte 3), and no side may be 0"),
+            (b"P5 1 1025 255\n", "refused 2: height 1025 (bytes 5 to 8) is above 1,024"),
+            (b"P5 1 1 254\n", "refused 15: maximum 254 (bytes 7 to 9), and only 255 is read"),
+            (b"P5 1 1 255\n", "refused 16: 0 pixel bytes from byte 11 on, and 1 by 1 need 1"),
+        ]:
+            self.file("label.pgm", data)
+            # also where the part that is cut out would be small enough
+            for tool, *files in [["picture", "to-raw", "label.pgm"], ["restore", "label.pgm", "out.pgm"]]:
+                said = self.run_tool(tool, *files, "--crop", "0", "0", "1", "1", status=1)
+                self.assertEqual(said, f"{tool}: label.pgm: {words}\n")
+
+    def test_sides_above_those_of_binary_pgm(self):
+        self.file("wide.raw", bytes(range(200)) * 6)
+        self.run_tool("picture", "from-raw", "wide.raw", "1200", "1", "wide.png")
+        self.run_tool("picture", "to-raw", "wide.png", "part.raw", "--crop", "199", "0", "3", "1")
+        self.assertEqual(self.file("part.raw"), bytes([199, 0, 1]))
+        said = self.run_tool("picture", "from-raw", "wide.raw", "1200", "1", "wide.pgm", status=1)
+        self.assertIn("wide.pgm: refused 2: 1200 by 1, and a side of a P5 file has 1 to 1,024 pixels", said)
+        self.assertFalse(os.path.exists(os.path.join(self.folder, "wide.pgm")))
+
     def test_restored_row(self):
         self.file("row.pgm", b"P2 5 1 255\n10 10 40 10 10\n")
         said = self.run_tool("restore", "row.pgm", "out.pgm", "--length", "3", "--iterations", "2")
-        self.assertEqual(self.file("out.pgm"), b"P5\n5 1\n255\n" + bytes([14, 0, 80, 0, 14]))
+        self.assertEqual(self.file("out.pgm"), b"P5\n5\n1\n255\n" + bytes([14, 0, 80, 0, 14]))
         self.assertIn("direction  Horizontal\n  length     3", said)
 
     def test_restored_row_of_a_drum(self):
@@ -133,7 +165,7 @@ class Commands(unittest.TestCase):
         for length, row in [("3", [60, 0, 10, 10, 0]), ("11", [62, 5, 5, 5, 5])]:
             options = ["--length", length, "--iterations", "1", "--border", "wrap"]
             said = self.run_tool("restore", "row.pgm", "out.pgm", *options)
-            self.assertEqual(self.file("out.pgm"), b"P5\n5 1\n255\n" + bytes(row))
+            self.assertEqual(self.file("out.pgm"), b"P5\n5\n1\n255\n" + bytes(row))
             self.assertIn("border     wrap\n", said)
 
     def test_what_restore_refuses(self):

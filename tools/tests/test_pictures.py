@@ -1,4 +1,4 @@
-"""Pictures: PNG files that libpng 1.6 wrote, with known pixels, and PGM files written out by hand."""
+"""Pictures: PNG files that libpng 1.6 wrote, with known pixels, and P2 files written out by hand."""
 import unittest
 
 import pictures
@@ -117,28 +117,21 @@ class Png(unittest.TestCase):
         self.assertEqual(pictures.read_png(pictures.write_png(picture)), picture)
 
 
-class Pgm(unittest.TestCase):
-    def test_bytes(self):
-        picture = pictures.Picture(5, 1, bytes([10, 10, 40, 10, 10]))
-        self.assertEqual(pictures.read_pgm(b"P5 5 1 255\n\x0a\x0a\x28\x0a\x0a"), picture)
-        commented = b"P5\n# a comment\n5 1\n# another\n255\n\x0a\x0a\x28\x0a\x0a surplus"
-        self.assertEqual(pictures.read_pgm(commented), picture)
-        self.assertEqual(pictures.write_pgm(picture), b"P5\n5 1\n255\n\x0a\x0a\x28\x0a\x0a")
-
+class PlainPgm(unittest.TestCase):
     def test_text(self):
         picture = pictures.Picture(3, 2, bytes([0, 1, 2, 253, 254, 255]))
-        self.assertEqual(pictures.read_pgm(b"P2\n3 2 # size\n255\n0 1 2\n253 254 # end\n255\n"), picture)
+        self.assertEqual(pictures.read_plain_pgm(b"P2\n3 2 # size\n255\n0 1 2\n253 254 # end\n255\n"), picture)
 
     def test_other_greatest_values(self):
-        self.assertEqual(pictures.read_pgm(b"P2 3 1 15 0 8 15"), pictures.Picture(3, 1, bytes([0, 136, 255])))
+        self.assertEqual(pictures.read_plain_pgm(b"P2 3 1 15 0 8 15"), pictures.Picture(3, 1, bytes([0, 136, 255])))
 
     def test_unreadable(self):
         for data in [
-            b"P5", b"P5 5 1", b"P5 0 1 255\n", b"P5 5 1 255\n1234", b"P5 1 1 65535\n12",
+            b"P2", b"P2 5 1", b"P2 0 1 255\n", b"P2 5 1 255\n1 2 3 4", b"P2 1 1 65535\n12",
             b"P2 1 1 255\n256", b"P2 1 1 255\nx", b"P2 1 1 0\n0",
         ]:
             with self.assertRaises(pictures.Unreadable):
-                pictures.read_pgm(data)
+                pictures.read_plain_pgm(data)
 
 
 class Parts(unittest.TestCase):

@@ -1,16 +1,13 @@
 -- What the lines of a picture are for its estimates: the samples of line k as bytes, and their bound; the estimate at a
--- pixel by its line and its place there; a destination written line by line (`lines-step`); the places of a destination
--- without padding (`pixels-tight`).
+-- pixel by its line and its place there; a destination written line by line (`lines-step`).
 use mathlib.Core.Path.{_≡_, refl, sym, ap, _∙_, subst}
 use mathlib.Core.Bool.{true}
 use mathlib.Core.List.{List}
 use Prim.Native.Nat.{ℕ, _+_, _-_, _*_, _/_, _%_, _≤_, _<_}
-use native.Mathlib.Nat.{mod-lt, mul-comm, div-lt-iff-lt-mul}
 use lib.IntN.{ℤ, pos}
 use lib.ListN.{getD}
-use Rattle.numbers.specs.Written.{Written, comb, front, pixels}
-use Rattle.numbers.proofs.Places.{front-iff, pixels-iff}
-use Rattle.numbers.proofs.Test.{bool-ext}
+use Rattle.numbers.specs.Written.{Written, comb}
+use Rattle.numbers.proofs.Places.{pixels-iff}
 use Rattle.numbers.proofs.Written.{written-join, written-same}
 use Rattle.image.specs.Picture.{pixel}
 use Rattle.raster.specs.Border.{borderMap}
@@ -78,11 +75,3 @@ module _ (px : ℕ → ℕ → ℕ) (d : RasterDirection4) (w h : ℕ) (border :
           ∙ e (placeOf d w c r) p
           ∙ ap (λ (l : ℕ). estimateOn px d w h border L q n l (placeOf d w c r)) (sym (o .1))
           ∙ sym (estimate-is c r)
-
--- ---- a destination without padding: its pixels are the first w × h places
-
-pub pixels-tight : (w h j : ℕ) → 0 < w → pixels w h w j ≡ front (w * h) j
-pixels-tight w h j p =
-    bool-ext (pixels w h w j) (front (w * h) j)
-    (λ e. front-iff (w * h) j .1 (rw (mul-comm w h) (div-lt-iff-lt-mul p .0 (pixels-iff w h w j .0 e .1))))
-    (λ e. pixels-iff w h w j .1 (mod-lt j p, div-lt-iff-lt-mul p .1 (rw (mul-comm w h) at (front-iff (w * h) j .0 e))))

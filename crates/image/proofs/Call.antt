@@ -4,8 +4,8 @@
 use Prim.Native.Nat.{ℕ, zero, suc}
 use native.Mathlib.Omega.{arith}
 use mathlib.Core.Path.{_≡_, refl, sym, ap, _∙_}
-use Rattle.image.specs.Call.{Decision, accepts, refuses, unless, decided, numberOf, Outcome, withOuts, outsOnly}
-use Rattle.image.specs.Call.{Returns}
+use Rattle.image.specs.Call.{Decision, accepts, refuses, unless, decided, andThen, numberOf, Outcome, Returns}
+use Rattle.image.specs.Call.{withOuts, outsOnly}
 use Rattle.image.specs.Refusal.{firstRefusal}
 
 module _ {R : Type 0} where
@@ -34,6 +34,12 @@ module _ {R : Type 0} where
 
   pub decided-accepts : (n : ℕ) (found found′ : R) → decided n found ≡ accepts found′ → (n ≡ 0) × (found ≡ found′)
   decided-accepts n found found′ e = let a = unless-accepts n (accepts found) found′ e in (a .0, cc)
+
+  -- both of two accept
+  pub then-accepts : {Q : Type 0} (d : Decision Q) (next : Q → Decision R) {found : R} → andThen d next ≡ accepts found
+      → (q : Q) × ((d ≡ accepts q) × (next q ≡ accepts found))
+  then-accepts (accepts q) next e = (q, (refl, e))
+  then-accepts (refuses number) next e = absurd (accepts-not-refuses (sym e))
 
   pub number-unless : (n : ℕ) (next : Decision R) → numberOf (unless n next) ≡ firstRefusal n (numberOf next)
   number-unless zero next = refl

@@ -10,10 +10,13 @@ pub cond-zero : (t : Bool) (n m : ℕ) → 0 < n → cond t n m ≡ 0 → (t ≡
 cond-zero true n m h e = absurd (omega (arith, h, e))
 cond-zero false n m h e = (refl, e)
 
--- a test that must hold gives 0
+-- a test that must hold gives 0: it holds, and so does what is behind it
+pub cond-holds : (t : Bool) (m n : ℕ) → 0 < n → cond t m n ≡ 0 → (t ≡ true) × (m ≡ 0)
+cond-holds true m n h e = (refl, e)
+cond-holds false m n h e = absurd (omega (arith, h, e))
+
 pub cond-left : (t : Bool) (n : ℕ) → 0 < n → cond t 0 n ≡ 0 → t ≡ true
-cond-left true n h e = refl
-cond-left false n h e = absurd (omega (arith, h, e))
+cond-left t n h e = cond-holds t 0 n h e .0
 
 pub first-zero : (a b : ℕ) → firstRefusal a b ≡ 0 → (a ≡ 0) × (b ≡ 0)
 first-zero zero b e = (refl, e)

@@ -7,6 +7,9 @@ pub mod Refusal
 pub mod Same
 pub mod Pair
 pub mod Picture
+pub mod Rows
+pub mod Tight
+pub mod Front
 pub mod ViewParameters
 pub mod ViewRefusal
 pub mod Examples

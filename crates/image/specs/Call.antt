@@ -1,8 +1,11 @@
 -- The one shape of a contract: what a call decides, answers, writes and leaves (document 01, "Refusals, first match
 -- wins").
 use Prim.Native.Nat.{ℕ, zero, suc}
-use mathlib.Core.List.{List}
+use mathlib.Core.Bool.{cond}
+use mathlib.Core.List.{List, _++_}
 use mathlib.Core.Path.{_≡_}
+use lib.Dec.{ltb}
+use lib.ListN.{length, drop}
 
 -- a picture in a slice of bytes
 pub record Gray8 : Type 0 where
@@ -26,6 +29,11 @@ unless (suc number) next = refuses (suc number)
 
 abbrev pub decided : {R : Type 0} → ℕ → R → Decision R
 decided number found = unless number (accepts found)
+
+-- one after the other
+abbrev pub andThen : {Q R : Type 0} → Decision Q → (Q → Decision R) → Decision R
+andThen (accepts found) next = next found
+andThen (refuses number) next = refuses number
 
 -- 0, or the refusal's number
 abbrev pub numberOf : {R : Type 0} → Decision R → ℕ
@@ -58,3 +66,13 @@ outsOnly value found old new = new ≡ value found
 -- a call that writes out-parameters alone and is lent nothing: its decision, as C has it
 abbrev pub Returns : {R O : Type 0} → Decision R → (R → O) → O → O → ℕ → Type 0
 Returns decision value before after r = Outcome decision numberOf (outsOnly value) before after (tt {0}) (tt {0}) r
+
+-- ---- bytes at the front of a slice
+
+-- the bytes, or a number where the slice has no room for them
+abbrev pub roomFor : ℕ → ℕ → List ℕ → Decision (List ℕ)
+roomFor number room xs = cond (ltb room (length xs)) (refuses number) (accepts xs)
+
+-- in the front of the slice, the rest as before
+abbrev pub frontWrites : List ℕ → List ℕ → List ℕ → Type 0
+frontWrites xs old new = new ≡ xs ++ drop (length xs) old

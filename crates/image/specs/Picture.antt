@@ -1,7 +1,7 @@
 -- Document 01, "Views and lines": pixels and rows of a picture that lies in a list of bytes.
-use Prim.Native.Nat.{ℕ, _+_, _*_}
+use Prim.Native.Nat.{ℕ, zero, suc, _+_, _*_, _/_, _%_}
 use mathlib.Core.Bool.{cond, _&&_}
-use mathlib.Core.List.{List, []}
+use mathlib.Core.List.{List, [], _∷_}
 use lib.Dec.{eqb, ltb}
 use lib.ListN.{length, getD, take, drop}
 use Rattle.image.specs.Refusal.{layoutRefusal}
@@ -25,3 +25,12 @@ rowOf xs width height stride row =
     cond (eqb (layoutRefusal (length xs) width height stride) 0 && ltb row height)
     (take width (drop (row * stride) xs))
     []
+
+-- f 0, f 1, .. , n of them
+unfoldable pub tabulate : (ℕ → ℕ) → ℕ → List ℕ
+tabulate f zero = []
+tabulate f (suc n) = f 0 ∷ tabulate (λ i. f (suc i)) n
+
+-- A tight picture's bytes: pixel (c, r) is byte r × width + c.
+abbrev pub pixelsOf : ℕ → ℕ → (ℕ → ℕ → ℕ) → List ℕ
+pixelsOf width height px = tabulate (λ i. px (i % width) (i / width)) (width * height)

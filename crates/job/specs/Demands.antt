@@ -2,9 +2,10 @@
 --
 -- Demand 1. "No layout, setting, float (NaN included) or scratch length makes a public call fail to return. Nothing but
 -- the scratch and the destination's pixels, estimates or 32 record bytes is ever written, and no refusal changes a
--- destination." None of the calls below has a `requires`, and each is proved to return and to write nothing but what
--- its contract names. What is kept is `Demand-1` for the whole job, and for the others `dst-kept` and `scratch-kept` of
--- image/specs/Call: Outcome, and `Painted`.
+-- destination." Document 02, K3, adds the bytes of a PGM file to what is written. None of the calls has a `requires`,
+-- and each is proved to return and to write nothing but what its contract names. What is kept is `Demand-1` for the
+-- whole job, and for the others `dst-kept` and `scratch-kept` of image/specs/Call: Outcome, and `Painted`, or
+-- image/specs/Call: frontWrites.
 -- Demand 2. "On pictures of up to 1,024 by 1,024 and at most 22 iterations, every answer and pixel is proved equal to
 -- document 01's definitions." The contract of each call fixes its answer, and what it writes, by definitions:
 -- docs/SPEC.md, "Contracts", lists the calls with their contracts and the theorems that these determine all.

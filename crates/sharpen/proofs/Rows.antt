@@ -1,6 +1,6 @@
--- Laws of the two passes, a row at a time: a row of sums from its ends and its inside, one more row of sums, what the
--- sums then are, and one more row of the destination. m is a row's width as the code counts it, end − start.
-use Prim.Native.Nat.{ℕ, _+_, _-_, _*_, _/_, _%_, _≤_, _<_}
+-- Laws of the two passes, a row at a time: a row of sums from its ends and its inside, and what the sums then are. m is
+-- a row's width as the code counts it, end − start.
+use Prim.Native.Nat.{ℕ, _+_, _-_, _*_, _≤_, _<_}
 use mathlib.Core.List.{List, _++_}
 use mathlib.Core.Path.{_≡_, refl, sym, _∙_, ap}
 use native.Mathlib.Nat.{le-refl}
@@ -8,13 +8,14 @@ use native.Mathlib.Omega.{arith}
 use lib.ListN.{length, getD, take, drop}
 use Rattle.numbers.specs.Written.{Written, Painted, front, part}
 use Rattle.numbers.proofs.List.{getD-part, length-part}
-use Rattle.numbers.proofs.Places.{part-join, within-front, pixels-row}
-use Rattle.numbers.proofs.Written.{written-join, written-part, painted-at, painted-get}
+use Rattle.numbers.proofs.Places.{part-join, within-front}
+use Rattle.numbers.proofs.Written.{written-join, written-part, painted-get}
 use Rattle.image.specs.Picture.{pixel}
+use Rattle.image.proofs.Rows.{row-end-within, row-part-length, row-part-at}
 use Rattle.sharpen.specs.Binomial.{tapPlace, binomialSum, sharper, unsharp}
 use Rattle.sharpen.specs.Passes.{weighed, tapSum, sumAt, insideAt, sharperAt, Sums, RowSums}
 use Rattle.sharpen.proofs.Binomial.{tap-lt, tap-inside, tap-sum-is, tap-sum-same, tap-sum-most, two-passes}
-use Rattle.sharpen.proofs.Places.{part-front, row-end-within}
+use Rattle.sharpen.proofs.Places.{part-front}
 
 pub inside-is : (row : List ℕ) (x : ℕ) → x + 4 < length row → insideAt row x ≡ sumAt row (2 + x)
 inside-is row x h =
@@ -49,20 +50,6 @@ module _ (row out out₁ ys out₃ : List ℕ) (long : 5 ≤ length row) (same :
           written-part 2 m out₁ fits (rw (length-part 2 m out₁ fits) at W₂) (within-front 2 m m (le-refl m))
           (λ i b _. inside-is row i (omega arith))
 
--- ---- one more row of a picture, w wide with stride s: n and m are w, as the code counts
-module _ (f : ℕ → ℕ → ℕ) (g : ℕ → ℕ) (w s y n m : ℕ) (old mid ys : List ℕ) where
-  pub painted-row : n ≡ w → m ≡ w → w ≤ s → y * s + w ≤ length mid → ((x : ℕ) → x < w → g x ≡ f x y)
-      → Painted 0 f w y s old mid
-      → Written 0 (front n) g (take m (drop (y * s) mid)) ys
-      → Painted 0 f w (y + 1) s old (take (y * s) mid ++ (ys ++ drop m (drop (y * s) mid)))
-  painted-row e d l h v P W = rw d (written-join P row (pixels-row w s y l))
-    where
-      row : Written 0 (part (y * s) w) (λ j. f (j % s) (j / s)) mid
-          (take (y * s) mid ++ (ys ++ drop w (drop (y * s) mid)))
-      row =
-          written-part (y * s) w mid h (rw (e, d) at W) (within-front (y * s) w w (le-refl w))
-          (λ x b _. v x b ∙ painted-at f s x y (omega arith))
-
 -- ---- the first pass
 
 abbrev pub rowSum : List ℕ → ℕ → ℕ → ℕ → ℕ → ℕ
@@ -70,18 +57,13 @@ rowSum xs s w c r = tapSum (λ i. pixel xs s i r) w c
 
 -- a row of the source, as a part of m places
 module _ (xs : List ℕ) (w s y m : ℕ) (same : m ≡ w) (fits : y * s + w ≤ length xs) where
-  abbrev rowPart : List ℕ
-  rowPart = take m (drop (y * s) xs)
+  abbrev row : List ℕ
+  row = take m (drop (y * s) xs)
 
-  pub row-part-length : length rowPart ≡ w
-  row-part-length = rw same (length-part (y * s) w xs fits)
-
-  pub row-part-at : (x : ℕ) → x < w → getD rowPart x 0 ≡ pixel xs s x y
-  row-part-at x h = getD-part (y * s) m xs x 0 (rw same h)
-
-  pub row-part-sum : (x : ℕ) → x < w → sumAt rowPart x ≡ rowSum xs s w x y
+  pub row-part-sum : (x : ℕ) → x < w → sumAt row x ≡ rowSum xs s w x y
   row-part-sum x h =
-      rw row-part-length (tap-sum-same (λ i. getD rowPart i 0) (λ i. pixel xs s i y) w x h row-part-at)
+      rw (row-part-length xs w s y m same fits)
+      (tap-sum-same (λ i. getD row i 0) (λ i. pixel xs s i y) w x h (row-part-at xs w s y m same fits))
 
 -- the sums of all rows
 pub row-sums : (xs : List ℕ) (w h s : ℕ) (old new : List ℕ) → w * h ≤ length old

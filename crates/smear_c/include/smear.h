@@ -110,6 +110,19 @@ uint8_t smear_run(
 uint8_t smear_summarize(
     const uint8_t *records, size_t records_len, uint64_t *sheet, size_t sheet_len, size_t *index);
 
+/* Reads a PGM file, Netpbm's P5: "P5", then width, height and maximum in any number of digits, each behind a separator,
+ * then one white byte and the pixels, tight. A separator is one or more white bytes (space, tab, LF, CR) or comments,
+ * each from '#' through the next LF or CR. *width and *height are the picture's, and file[*start] is its first pixel.
+ * Refusals: 14 of a header that is not so, 1 of a side of 0, 2 of one above 1,024, 15 of a maximum other than 255, 16
+ * of missing or surplus pixels. */
+uint8_t smear_read_pgm(const uint8_t *file, size_t file_len, size_t *width, size_t *height, size_t *start);
+
+/* Writes `src` as a PGM file into the front of `out`: "P5", width, height and 255, an LF behind each, and the pixels,
+ * tight. *written is how many bytes that is, at most 17 + width * height; what stands behind them in `out` is not
+ * changed. Refusals: 1 to 4 of the source, 5 of an `out` that is too short. */
+uint8_t smear_write_pgm(const uint8_t *src, size_t src_len, size_t width, size_t height, size_t stride,
+                        uint8_t *out, size_t out_len, size_t *written);
+
 #ifdef __cplusplus
 }
 #endif

@@ -6,9 +6,10 @@ use mathlib.Core.List.{List}
 use lib.Ieee.{Float}
 use lib.IntN.{ℤ}
 use lib.ListN.{length}
-use Rattle.image.specs.Call.{Gray8, Returns, numberOf, outsOnly, withOuts}
+use Rattle.image.specs.Call.{Gray8, Returns, numberOf, frontWrites, outsOnly, withOuts}
 use Rattle.image.specs.Determined.{Determines}
 use Rattle.image.proofs.Determined.{outcome-determines, outs-one, with-outs-one}
+use Rattle.image.proofs.Front.{front-one}
 use Rattle.raster.specs.Direction.{directionIndex}
 use Rattle.raster.specs.declared.direction.RasterDirection4.{RasterDirection4}
 use Rattle.tensor.specs.Tensor.{directionDecision}
@@ -21,10 +22,13 @@ use Rattle.sharpen.proofs.Determined.{sharpen-one}
 use Rattle.job.specs.declared.JobConfig.{JobConfig}
 use Rattle.job.specs.Job.{jobOf, layoutOf, plan, jobWrites}
 use Rattle.job.proofs.Determined.{job-one, lengths}
-use Rattle.smear_run.specs.Output.{output, runDecision, runWrites}
-use Rattle.smear_run.proofs.Determined.{run-one}
+use Rattle.pgm.specs.Read.{readDecision}
+use Rattle.pgm.specs.Write.{writeDecision}
+use Rattle.pgm.specs.declared.PgmPicture.{PgmPicture}
+use Rattle.smear_run.specs.Output.{output, runDecision}
 use Rattle.smear_c.specs.Direction.{DirectionOuts, directionOuts}
 use Rattle.smear_c.specs.Length.{pixelsOf, LengthMeasuredC}
+use Rattle.smear_c.specs.Pictures.{pictureOuts, PgmWrittenC}
 use Rattle.smear_c.specs.Program.{RanC}
 use Rattle.smear_c.specs.Restoration.{FilteredC, EstimateWrittenC}
 use Rattle.smear_c.specs.Sharpening.{SharpenedC}
@@ -42,6 +46,11 @@ pub length-determined : (src : Gray8) (d : RasterDirection4) (transitions amplit
 length-determined src d transitions amplitude before =
     outcome-determines length (lengthDecision src d transitions amplitude) numberOf (outsOnly pixelsOf)
     (outs-one pixelsOf) before
+
+pub pgm-read-determined : (file : List ℕ) (before : PgmPicture)
+    → Determines {S = Unit {0}} (λ s. s) (λ _ _ after r. Returns (readDecision file) pictureOuts before after r)
+pgm-read-determined file before =
+    outcome-determines (λ s. s) (λ _. readDecision file) numberOf (outsOnly pictureOuts) (outs-one pictureOuts) before
 
 -- below, what a call leaves is its destination and its out-parameters
 
@@ -80,4 +89,11 @@ pub ran-determined : (job picture old : List ℕ) (before : ℕ)
     → Determines {D = List ℕ × ℕ} {S = Unit {0}} (λ s. s) (λ _ _ new r. RanC job picture old (new .0) before (new .1) r)
 ran-determined job picture old before =
     outcome-determines (λ s. s) (λ _. runDecision (length old) (output job picture)) numberOf
-    (withOuts runWrites length) (with-outs-one runWrites length run-one) (old, before)
+    (withOuts frontWrites length) (with-outs-one frontWrites length front-one) (old, before)
+
+pub pgm-written-determined : (src : Gray8) (old : List ℕ) (before : ℕ)
+    → Determines {D = List ℕ × ℕ} {S = Unit {0}} (λ s. s)
+    (λ _ _ new r. PgmWrittenC src old (new .0) before (new .1) r)
+pgm-written-determined src old before =
+    outcome-determines (λ s. s) (λ _. writeDecision src (length old)) numberOf
+    (withOuts frontWrites length) (with-outs-one frontWrites length front-one) (old, before)

@@ -1,14 +1,13 @@
 -- What each call returns and leaves in its out-parameters, by the answer.
-use mathlib.Core.Path.{_≡_, refl, sym, ap, _∙_}
+use mathlib.Core.Path.{_≡_, refl, ap}
 use mathlib.Core.List.{List}
 use Prim.Native.Nat.{ℕ, _≤_, _<_}
-use native.Mathlib.Omega.{arith}
 use borrow.Author.Tests.{lt-ltb, le-ltb}
 use lib.IntN.{ℤ}
 use lib.ListN.{length}
 use lib.Seq.{sets, sets-eq}
-use Rattle.image.specs.Call.{Decision, accepts, refuses, numberOf, outsOnly, withOuts, Outcome, Returns}
-use Rattle.image.proofs.Call.{accepts-not-refuses, outcome-accepted, outcome-refused}
+use Rattle.image.specs.Call.{Decision, accepts, refuses, numberOf, outsOnly, Returns}
+use Rattle.image.proofs.Call.{outcome-accepted, outcome-refused}
 use Rattle.tensor.specs.declared.direction.DirectionAnswer.{DirectionAnswer}
 use Rattle.tensor.specs.declared.direction.DirectionAnswer.the-variants.{Direction, Refused}
 use Rattle.tensor.specs.declared.direction.DirectionEstimate.{DirectionEstimate}
@@ -20,9 +19,6 @@ use Rattle.summary.specs.File.{summarized}
 use Rattle.summary.specs.declared.RecordSummary.{RecordSummary}
 use Rattle.summary.specs.declared.SummaryAnswer.the-variants.{Summary}
 use Rattle.summary.specs.declared.SummaryAnswer.the-variants as sheet
-use Rattle.smear_run.specs.Output.{runAnswer, runWrites}
-use Rattle.smear_run.specs.declared.RunAnswer.{RunAnswer}
-use Rattle.smear_run.specs.declared.RunAnswer.the-variants as run
 use Rattle.smear_c.specs.Direction.{DirectionOuts, directionOuts}
 use Rattle.smear_c.specs.Length.{lengthDecided}
 use Rattle.smear_c.specs.Sheet.{sheetLength, sheetNumbers, leaves, summarizedC}
@@ -68,45 +64,6 @@ module _ (decision : Decision DirectionEstimate) (before : DirectionOuts) where
 pub length-decided : (decision : Decision LineLength) → lengthDecided (lengthAnswer decision) ≡ decision
 length-decided (accepts l) = refl
 length-decided (refuses number) = refl
-
--- ---- the program's work
-
-module _ {old new : List ℕ} (before : ℕ) (decision : Decision (List ℕ)) {answer : RunAnswer}
-    (o : Outcome decision runAnswer runWrites old new (tt {0}) (tt {0}) answer) where
-  abbrev InC : ℕ → ℕ → Type 0
-  InC after r = Outcome decision numberOf (withOuts runWrites length) (old, before) (new, after) (tt {0}) (tt {0}) r
-
-  pub run-written : {n : ℕ} → answer ≡ run.Written n → InC n 0
-  run-written {n} e = go decision refl
-    where
-      go : (d : Decision (List ℕ)) → decision ≡ d → InC n 0
-      go (accepts xs) is =
-          let said = sym e ∙ o .answered ∙ ap runAnswer is in
-          let same : n ≡ length xs = cc in
-          outcome-accepted numberOf (withOuts runWrites length) (old, before) tt xs
-          (new, n) tt is refl (o .written xs is, same)
-      go (refuses number) is =
-          let said = sym e ∙ o .answered ∙ ap runAnswer is in
-          let z : _≡_ {A = ℕ} 0 1 = cc in
-          absurd (omega arith)
-
-  pub run-refused : {number : ℕ} → answer ≡ run.Refused number → InC before number
-  run-refused {number} e = go decision refl
-    where
-      go : (d : Decision (List ℕ)) → decision ≡ d → InC before number
-      go (accepts xs) is =
-          let said = sym e ∙ o .answered ∙ ap runAnswer is in
-          let z : _≡_ {A = ℕ} 0 1 = cc in
-          absurd (omega arith)
-      go (refuses k) is =
-          let said = sym e ∙ o .answered ∙ ap runAnswer is in
-          let same : number ≡ k = cc in
-          record {
-            answered = rw is same;
-            written = λ found z. absurd (accepts-not-refuses (sym z ∙ is));
-            dst-kept = λ m z. rw (o .dst-kept m z) refl;
-            scratch-kept = λ _ _ _. refl;
-          }
 
 -- ---- the sheet
 

@@ -6,7 +6,7 @@ use mathlib.Core.Path.{_≡_, refl, sym, ap, _∙_}
 use lib.IntN.{ℤ, pos}
 use lib.Ieee.{Float}
 use lib.ListN.{length, take}
-use Rattle.image.specs.Call.{Gray8, Decision, accepts, numberOf, Outcome, withOuts, outsOnly, Returns}
+use Rattle.image.specs.Call.{Gray8, Decision, accepts, numberOf, frontWrites, Outcome, withOuts, outsOnly, Returns}
 use Rattle.image.specs.Same.{SamePicture, SameLayout, SameEnd}
 use Rattle.image.proofs.Same.{answers-alike}
 use Rattle.raster.specs.declared.direction.RasterDirection4.{RasterDirection4}
@@ -23,10 +23,13 @@ use Rattle.sharpen.proofs.Same.{sharpen-same, sharpened-same}
 use Rattle.job.specs.Job.{layoutOf, jobOf, plan, jobAnswer, jobWrites}
 use Rattle.job.specs.declared.JobConfig.{JobConfig}
 use Rattle.job.proofs.Same.{job-same, restored-same}
-use Rattle.smear_run.specs.Output.{Whole, output, runDecision, runAnswer, runWrites}
+use Rattle.pgm.specs.Write.{writeDecision, writeAnswer}
+use Rattle.pgm.proofs.Same.{write-same, written-same}
+use Rattle.smear_run.specs.Output.{Whole, output, runDecision, runAnswer}
 use Rattle.smear_run.proofs.Surplus.{run-same, ran-same}
 use Rattle.smear_c.specs.Direction.{DirectionOuts, directionOuts}
 use Rattle.smear_c.specs.Length.{LengthMeasuredC}
+use Rattle.smear_c.specs.Pictures.{PgmWrittenC}
 use Rattle.smear_c.specs.Program.{RanC}
 use Rattle.smear_c.specs.Restoration.{FilteredC, EstimateWrittenC}
 use Rattle.smear_c.specs.Sharpening.{SharpenedC}
@@ -175,7 +178,20 @@ pub ran-same-c : (job picture extra : List ℕ) → Whole job picture → {old n
     × ((xs : List ℕ) → runDecision (length old) (output job (picture ++ extra)) ≡ accepts xs
     → take (length xs) new ≡ take (length xs) new′)
 ran-same-c job picture extra whole room o o′ = (
-  outs-alike (run-same job picture extra whole room) (outs-alone runWrites o) (outs-alone runWrites o′),
+  outs-alike (run-same job picture extra whole room) (outs-alone frontWrites o) (outs-alone frontWrites o′),
   ran-same job picture extra whole room (answered-by runAnswer (destination-alone o))
       (answered-by runAnswer (destination-alone o′)) .1,
+)
+
+-- ---- a picture as PGM
+
+pub pgm-written-same-c : {a b : Gray8} → SamePicture a b → {old new old′ new′ : List ℕ}
+    {before after before′ after′ r r′ : ℕ} → length old ≡ length old′
+    → PgmWrittenC a old new before after r → PgmWrittenC b old′ new′ before′ after′ r′
+    → SameOuts (writeDecision a (length old)) after after′ r r′
+    × ((xs : List ℕ) → writeDecision a (length old) ≡ accepts xs → take (length xs) new ≡ take (length xs) new′)
+pgm-written-same-c same room o o′ = (
+  outs-alike (write-same same room) (outs-alone frontWrites o) (outs-alone frontWrites o′),
+  written-same same room (answered-by writeAnswer (destination-alone o))
+      (answered-by writeAnswer (destination-alone o′)) .1,
 )

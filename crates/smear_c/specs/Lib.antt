@@ -6,3 +6,4 @@ pub mod Length
 pub mod WholeJob
 pub mod Program
 pub mod Sheet
+pub mod Pictures

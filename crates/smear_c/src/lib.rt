@@ -2,6 +2,7 @@
 // out-parameters, which a refusal leaves unchanged; the result is 0 or the number of the refusal.
 pub mod direction;
 pub mod length;
+pub mod pictures;
 pub mod program;
 pub mod restoration;
 pub mod sharpening;

@@ -6,6 +6,7 @@ use lib.Ieee.{ofBits, toBits, add, mul, div, rem, ofInt, lt}
 use lib.ListN.{replicate, set, take}
 use Rattle.numbers.specs.Sum.{total, count}
 use Rattle.floats.specs.Factor.{within, roundedQ16, quantized, factorOf}
+use Rattle.image.specs.Picture.{tabulate}
 use Rattle.image.specs.Refusal.{layoutRefusal, pairRefusal}
 use Rattle.raster.specs.Border.{borderMap}
 use Rattle.raster.specs.Direction.{fromAngle}
@@ -20,7 +21,7 @@ use Rattle.record.specs.Bytes.{littleEndian, bytesOf}
 use Rattle.record.specs.Fields.{decoded, encoded, legal}
 use Rattle.record.specs.Record.{recordOf, isFactor, filterQ, fieldsOf, recordFields, readRecord, isJob}
 use Rattle.smear_run.specs.Stage.{stage}
-use Rattle.smear_run.specs.Output.{refusedText, tabulate, output}
+use Rattle.smear_run.specs.Output.{refusedText, output}
 
 job : List ℕ
 job = 0x05 ∷ 0x00 ∷ 0x01 ∷ 0x00 ∷ 0x00 ∷ 0x00 ∷ 0x00 ∷ 0x01 ∷ 0x03 ∷ 0x00 ∷ 0x01 ∷ 0x00 ∷ 0x00 ∷ 0x00 ∷ 0x01

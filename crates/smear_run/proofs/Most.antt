@@ -8,14 +8,15 @@ use lib.Dec.{ltb, lit≤}
 use lib.ListN.{length, length-append}
 use Rattle.numbers.proofs.Test.{by-test}
 use Rattle.image.specs.Call.{Decision, accepts, refuses}
+use Rattle.image.specs.Picture.{pixelsOf}
+use Rattle.image.proofs.Tight.{length-pixels}
 use Rattle.record.specs.Record.{recordFields, writeBytes, readRecord, isJob}
 use Rattle.record.specs.declared.Record.{Record}
 use Rattle.record.specs.declared.ReadAnswer.{ReadAnswer}
 use Rattle.record.specs.declared.ReadAnswer.the-variants as read
 use Rattle.record.proofs.Answer.{record-bytes-most}
 use Rattle.smear_run.specs.Stage.{Made, stage}
-use Rattle.smear_run.specs.Output.{refusedText, pixelsOf, printed, jobOutput, outputOf, output}
-use Rattle.smear_run.proofs.Fronts.{length-tabulate}
+use Rattle.smear_run.specs.Output.{refusedText, printed, jobOutput, outputOf, output}
 use Rattle.smear_run.proofs.Printed.{no-job, too-large, of-stage}
 
 text-most : (n : ℕ) → length (refusedText n) ≤ 4128
@@ -31,7 +32,7 @@ printed-most : (r : Record) (d : Decision Made) → r .width * r .height ≤ 409
 printed-most r (refuses number) h = text-most number
 printed-most r (accepts m) h =
     let l = length-append (pixelsOf (r .width) (r .height) (m .pixels)) (writeBytes (recordFields (m .result)) []) in
-    let p = length-tabulate (λ i. m .pixels (i % r .width) (i / r .width)) (r .width * r .height) in
+    let p = length-pixels (r .width) (r .height) (m .pixels) in
     let b = record-bytes-most (m .result) in
     omega arith
 

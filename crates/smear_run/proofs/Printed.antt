@@ -1,22 +1,22 @@
 -- What is printed, case by case; and what the call answers.
-use mathlib.Core.Path.{_≡_, refl, sym, ap, _∙_}
+use mathlib.Core.Path.{_≡_, refl, ap, _∙_}
 use mathlib.Core.Bool.{true, false}
 use mathlib.Core.List.{List, _++_}
 use Prim.Native.Nat.{ℕ, _+_, _-_, _*_, _≤_, _<_}
 use native.Mathlib.Omega.{arith}
 use borrow.Author.Tests.{lt-ltb, le-ltb}
-use lib.ListN.{length, length-append, take, drop}
+use lib.ListN.{length, take, drop}
 use lib.Seq.{take-length, take-at, length-take-le}
 use Rattle.numbers.proofs.List.{length-part}
-use Rattle.image.specs.Call.{Decision, accepts, refuses, Outcome}
+use Rattle.image.specs.Call.{Decision, accepts, refuses, frontWrites, Outcome}
 use Rattle.image.proofs.Call.{outcome-accepted, outcome-refused}
+use Rattle.image.proofs.Front.{room-short, room-whole, counted, counted-fits}
 use Rattle.record.specs.Record.{recordFields, writeNumber, readRecord, isJob, Wrote}
 use Rattle.record.specs.declared.Record.{Record}
 use Rattle.record.specs.declared.ReadAnswer.the-variants as read
 use Rattle.record.proofs.Answer.{wrote-number, wrote-bytes}
 use Rattle.smear_run.specs.Stage.{stage}
-use Rattle.smear_run.specs.Output.{refusedText, tooLarge, thenRecord, printed, jobOutput, output, runDecision}
-use Rattle.smear_run.specs.Output.{runAnswer, runWrites, Ran}
+use Rattle.smear_run.specs.Output.{refusedText, tooLarge, thenRecord, printed, jobOutput, output, runAnswer, Ran}
 use Rattle.smear_run.specs.Parts.{Front, Filtered, finished}
 use Rattle.smear_run.specs.declared.filters.FilterAnswer.{FilterAnswer}
 use Rattle.smear_run.specs.declared.RunAnswer.{RunAnswer}
@@ -79,35 +79,31 @@ module _ (job picture : List ℕ) where
   module _ {made : List ℕ} {n : ℕ} (f : Front (output job picture) made n) (old : List ℕ) where
     pub ran-short : length old < n → Ran job picture old old (Refused 10)
     ran-short h =
-        let t = lt-ltb (length old) (length (output job picture)) (rw (f .count) at h) in
-        let d : runDecision (length old) (output job picture) ≡ refuses 10 = rw t in
-        outcome-refused runAnswer runWrites old tt 10 d refl
+        outcome-refused runAnswer frontWrites old tt 10 (room-short 10 (output job picture) (rw (f .count) at h)) refl
 
     pub ran-whole : {new : List ℕ} → n ≤ length old
         → new ≡ take (length (take n made)) (take n made) ++ drop (length (take n made)) old
         → Ran job picture old new (Written n)
     ran-whole {new} h e =
-        let t = le-ltb (length old) (length (output job picture)) (rw (f .count) at h) in
-        let d : runDecision (length old) (output job picture) ≡ accepts (output job picture) = rw t in
+        let d = room-whole 10 (output job picture) (rw (f .count) at h) in
         let same = e ∙ ap (λ (xs : List ℕ). take (length xs) xs ++ drop (length xs) old) (f .bytes) in
         let all = ap (λ (xs : List ℕ). xs ++ drop (length (output job picture)) old)
         (take-length (output job picture)) in
-        outcome-accepted runAnswer runWrites old tt (output job picture) new tt d (ap Written (f .count)) (same ∙ all)
+        outcome-accepted runAnswer frontWrites old tt (output job picture) new tt d (ap Written (f .count)) (same ∙ all)
 
--- what was written fits
+-- ---- how many bytes were written
+
+abbrev pub countOf : RunAnswer → Decision ℕ
+countOf (Written n) = accepts n
+countOf (Refused number) = refuses number
+
+pub count-is : (d : Decision (List ℕ)) → countOf (runAnswer d) ≡ counted d
+count-is (accepts xs) = refl
+count-is (refuses number) = refl
+
+-- they fit
 pub ran-fits : {decision : Decision (List ℕ)} {old new : List ℕ} {answer : RunAnswer} {n : ℕ}
-    → Outcome decision runAnswer runWrites old new (tt {0}) (tt {0}) answer
+    → Outcome decision runAnswer frontWrites old new (tt {0}) (tt {0}) answer
     → length new ≡ length old → answer ≡ Written n
     → n ≤ length old
-ran-fits {decision} {old} {new} {answer} {n} ran same e = go decision refl
-  where
-    go : (d : Decision (List ℕ)) → decision ≡ d → n ≤ length old
-    go (accepts xs) is =
-        let said = sym e ∙ ran .answered ∙ ap runAnswer is in
-        let l : n ≡ length xs = cc in
-        let all = sym same ∙ ap length (ran .written xs is) ∙ length-append xs (drop (length xs) old) in
-        omega arith
-    go (refuses number) is =
-        let said = sym e ∙ ran .answered ∙ ap runAnswer is in
-        let z : _≡_ {A = ℕ} 0 1 = cc in
-        absurd (omega arith)
+ran-fits ran same e = counted-fits countOf count-is ran same (ap countOf e)

@@ -14,6 +14,7 @@ use Rattle.sharpen.specs.Call.{binomialRefusal}
 use Rattle.job.specs.declared.JobResult.{JobResult}
 use Rattle.job.proofs.Plans.{plan-length, plan-estimate}
 use Rattle.image.specs.Call.{Decision, accepts, refuses, decided}
+use Rattle.image.specs.Picture.{pixelsOf}
 use Rattle.record.specs.Record.{filterCode, recordFields, writeNumber, writeBytes, readRecord, isJob}
 use Rattle.record.specs.declared.Record.{Record}
 use Rattle.record.specs.declared.ReadAnswer.the-variants as read
@@ -36,7 +37,7 @@ use Rattle.smear_run.specs.Stage.{
   binomialStage,
   stage,
 }
-use Rattle.smear_run.specs.Output.{pixelsOf, output}
+use Rattle.smear_run.specs.Output.{output}
 use Rattle.smear_run.specs.Parts.{Filtered, Writable}
 use Rattle.smear_run.specs.declared.filters.FilterAnswer.{FilterAnswer}
 use Rattle.smear_run.proofs.Stages.{stage-job, stage-restoration, stage-unsharp, stage-binomial}

@@ -11,6 +11,7 @@ use lib.Ieee.{Float}
 use lib.ListN.{length}
 use Rattle.image.specs.Call.{gray8, Decision, accepts, refuses, Outcome}
 use Rattle.image.proofs.Call.{outcome-accepted, outcome-refused}
+use Rattle.image.proofs.Tight.{painted-list}
 use Rattle.raster.specs.declared.direction.RasterDirection4.{RasterDirection4}
 use Rattle.swings.specs.declared.Swing.{Swing}
 use Rattle.deblur.specs.Calls as calls
@@ -54,7 +55,6 @@ use Rattle.smear_run.specs.Parts.{
   finished,
 }
 use Rattle.smear_run.specs.declared.filters.FilterAnswer.{FilterAnswer}
-use Rattle.smear_run.proofs.Fronts.{painted-list}
 
 module _ (r : Record) (old new : List ℕ) (answer : FilterAnswer) where
   -- a call's outcome, as the filter's: `tells` is its answer's part in the filter's

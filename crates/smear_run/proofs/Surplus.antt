@@ -1,24 +1,24 @@
 -- Document 01, "The 32-byte record": "surplus picture bytes are ignored" (`surplus-ignored`). So two runs, the one with
 -- surplus bytes, end alike, whatever the slices that they write to held (`ran-same`; `ran-alike` for equal outputs).
-use Prim.Native.Nat.{ℕ, zero, suc, _+_, _-_, _*_, _/_, _%_, _≤_, _<_}
-use native.Mathlib.Nat.{le-refl, mod-lt, mul-comm, div-lt-iff-lt-mul}
+use Prim.Native.Nat.{ℕ, _+_, _-_, _*_, _≤_, _<_}
+use native.Mathlib.Nat.{le-refl}
 use native.Mathlib.Omega.{arith}
 use mathlib.Core.Bool.{true}
-use mathlib.Core.List.{List, _∷_, _++_}
+use mathlib.Core.List.{List, _++_}
 use mathlib.Core.Path.{_≡_, refl, sym, ap, ap₂, _∙_}
 use borrow.Author.Tests.{leb-true, ltb-true, ltb-false}
 use lib.Dec.{leb, ltb}
 use lib.Ieee.{Float}
-use lib.ListN.{length, take, drop, length-append, List·getD-append}
-use lib.Seq.{take-at}
+use lib.ListN.{length, take, length-append, List·getD-append}
 use Rattle.numbers.specs.Scalar.{clampByte}
 use Rattle.numbers.proofs.Test.{by-test}
 use Rattle.image.specs.Call.{Decision, accepts, refuses, decided}
 use Rattle.image.specs.Picture.{pixel}
 use Rattle.image.specs.Refusal.{maxSide, Laid}
 use Rattle.image.specs.Same.{SamePicture}
+use Rattle.image.proofs.Front.{fronts-alike}
 use Rattle.image.proofs.Refusal.{place-within}
-use Rattle.image.proofs.Same.{answers-alike}
+use Rattle.image.proofs.Tight.{pixels-same}
 use Rattle.deblur.specs.Settings.{LineFilter, restorationOf, unsharpOf}
 use Rattle.deblur.proofs.RowStride.{walked-tight}
 use Rattle.deblur.proofs.Same.{filter-refusal-same, last-same}
@@ -52,7 +52,7 @@ use Rattle.smear_run.specs.Stage.{
   stageOf,
   stage,
 }
-use Rattle.smear_run.specs.Output.{tabulate, pixelsOf, thenRecord, printed, jobOutput, outputOf, output}
+use Rattle.smear_run.specs.Output.{thenRecord, printed, jobOutput, outputOf, output}
 use Rattle.smear_run.specs.Output.{Whole, runDecision, Ran}
 use Rattle.smear_run.specs.declared.RunAnswer.{RunAnswer}
 use Rattle.smear_run.proofs.Printed.{no-job, too-large, of-stage}
@@ -69,30 +69,7 @@ module _ (job p q : List ℕ) (same : output job p ≡ output job q) where
       → (answer ≡ answer′)
       × ((xs : List ℕ) → runDecision (length old) (output job p) ≡ accepts xs
       → take (length xs) new ≡ take (length xs) new′)
-  ran-alike {old} {old′ = old′} room o o′ =
-      let e = run-alike room in (
-        answers-alike e o o′,
-        λ xs is.
-            ap (take (length xs)) (o .written xs is)
-            ∙ take-at xs (drop (length xs) old) (length xs) refl
-            ∙ sym (take-at xs (drop (length xs) old′) (length xs) refl)
-            ∙ sym (ap (take (length xs)) (o′ .written xs (sym e ∙ is))),
-      )
-
--- ---- what is printed of pixels
-
--- only places below n are read
-tabulate-same : (f g : ℕ → ℕ) (n : ℕ) → ((i : ℕ) → i < n → f i ≡ g i) → tabulate f n ≡ tabulate g n
-unfolding tabulate
-tabulate-same f g zero e = refl
-tabulate-same f g (suc n) e =
-    ap₂ _∷_ (e 0 (omega arith)) (tabulate-same (λ i. f (suc i)) (λ i. g (suc i)) n (λ i h. e (suc i) (omega arith)))
-
-pixels-same : (w h : ℕ) (p q : ℕ → ℕ → ℕ) → 0 < w → ((c y : ℕ) → c < w → y < h → p c y ≡ q c y)
-    → pixelsOf w h p ≡ pixelsOf w h q
-pixels-same w h p q some e =
-    tabulate-same (λ i. p (i % w) (i / w)) (λ i. q (i % w) (i / w)) (w * h) λ i below.
-    e (i % w) (i / w) (mod-lt i some) (div-lt-iff-lt-mul some .1 (rw (mul-comm w h) at below))
+  ran-alike room o o′ = fronts-alike (run-alike room) o o′
 
 -- ---- two tight pictures that are the same
 

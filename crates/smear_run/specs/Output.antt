@@ -2,10 +2,11 @@
 use mathlib.Core.Path.{_≡_}
 use mathlib.Core.Bool.{true, cond}
 use mathlib.Core.List.{List, [], _∷_, _++_}
-use Prim.Native.Nat.{ℕ, zero, suc, _+_, _*_, _/_, _%_, _≤_}
+use Prim.Native.Nat.{ℕ, _+_, _*_, _/_, _%_, _≤_}
 use lib.Dec.{ltb}
-use lib.ListN.{length, drop}
-use Rattle.image.specs.Call.{Decision, accepts, refuses, Outcome}
+use lib.ListN.{length}
+use Rattle.image.specs.Call.{Decision, accepts, refuses, roomFor, frontWrites, Outcome}
+use Rattle.image.specs.Picture.{pixelsOf}
 use Rattle.record.specs.Record.{recordFields, writeBytes, readRecord, isJob}
 use Rattle.record.specs.declared.Record.{Record}
 use Rattle.record.specs.declared.ReadAnswer.{ReadAnswer}
@@ -27,15 +28,6 @@ abbrev pub tooLarge : List ℕ
 tooLarge = 116 ∷ 111 ∷ 111 ∷ 32 ∷ 108 ∷ 97 ∷ 114 ∷ 103 ∷ 101 ∷ 10 ∷ []
 
 -- ---- "pixels, then the result"
-
--- f 0, f 1, .. , n of them
-unfoldable pub tabulate : (ℕ → ℕ) → ℕ → List ℕ
-tabulate f zero = []
-tabulate f (suc n) = f 0 ∷ tabulate (λ i. f (suc i)) n
-
--- tight: pixel (c, r) is byte r × width + c
-abbrev pub pixelsOf : ℕ → ℕ → (ℕ → ℕ → ℕ) → List ℕ
-pixelsOf width height px = tabulate (λ i. px (i % width) (i / width)) (width * height)
 
 -- the result's 32 bytes behind the pixels: `write` refuses no job's result (proofs/Results: `result-written`)
 abbrev pub thenRecord : List ℕ → Record → List ℕ
@@ -72,17 +64,13 @@ Whole job picture =
 
 -- what is printed, or 10 where there is no room for it
 abbrev pub runDecision : ℕ → List ℕ → Decision (List ℕ)
-runDecision room xs = cond (ltb room (length xs)) (refuses 10) (accepts xs)
+runDecision room xs = roomFor 10 room xs
 
 -- how many bytes are printed
 abbrev pub runAnswer : Decision (List ℕ) → RunAnswer
 runAnswer (accepts xs) = Written (length xs)
 runAnswer (refuses number) = Refused number
 
--- in the front of the slice, the rest as before
-abbrev pub runWrites : List ℕ → List ℕ → List ℕ → Type 0
-runWrites xs old new = new ≡ xs ++ drop (length xs) old
-
 abbrev pub Ran : List ℕ → List ℕ → List ℕ → List ℕ → RunAnswer → Type 0
 Ran job picture old new answer =
-    Outcome (runDecision (length old) (output job picture)) runAnswer runWrites old new (tt {0}) (tt {0}) answer
+    Outcome (runDecision (length old) (output job picture)) runAnswer frontWrites old new (tt {0}) (tt {0}) answer

@@ -12,9 +12,14 @@ use Rattle.numbers.specs.Sum.{total, count}
 use Rattle.floats.specs.Factor.{quantized}
 use Rattle.floats.specs.declared.Quantized.{Quantized}
 use Rattle.floats.specs.declared.Quantized.the-variants.{Q16}
-use Rattle.image.specs.Call.{gray8}
-use Rattle.image.specs.Picture.{pixel}
-use Rattle.image.specs.Refusal.{layoutRefusal, pairRefusal}
+use Rattle.image.specs.Call.{gray8, Decision, accepts, refuses}
+use Rattle.image.specs.Picture.{pixel, tabulate}
+use Rattle.image.specs.Refusal.{sidesRefusal, layoutRefusal, pairRefusal}
+use Rattle.pgm.specs.Form.{onFrom}
+use Rattle.pgm.specs.Read.{readDecision, readAnswer}
+use Rattle.pgm.specs.Write.{digits, digitCount, writeDecision}
+use Rattle.pgm.specs.declared.PgmAnswer.{PgmAnswer}
+use Rattle.pgm.specs.declared.PgmAnswer.the-variants as pgm
 use Rattle.raster.specs.Border.{borderMap}
 use Rattle.raster.specs.Direction.{fromAngle}
 use Rattle.raster.specs.Lines.{startCol, startRow, lineOf}
@@ -86,6 +91,26 @@ vertical-over-11 : List ℕ
 vertical-over-11 =
     5 ∷ 0 ∷ 1 ∷ 0 ∷ 2 ∷ 0 ∷ 0 ∷ 1 ∷ 11 ∷ 0 ∷ 1 ∷ 0 ∷ 0 ∷ 0 ∷ 1 ∷ 0 ∷ replicate 14 0 ++ (0x25 ∷ 0x40 ∷ [])
 
+-- ---- K3's files
+
+-- `P5`, and with a blank before each the digits of width, height and maximum
+p5 : List ℕ → List ℕ → List ℕ → List ℕ
+p5 width height maximum = 80 ∷ 53 ∷ 32 ∷ width ++ (32 ∷ height) ++ (32 ∷ maximum)
+
+-- 1, 255 and 1025
+d1 : List ℕ
+d1 = 49 ∷ []
+
+d255 : List ℕ
+d255 = 50 ∷ 53 ∷ 53 ∷ []
+
+d1025 : List ℕ
+d1025 = 49 ∷ 48 ∷ 50 ∷ 53 ∷ []
+
+-- 18446744073709551, the start of 2^64 + 5 and of 2^64 + 255
+beyond : List ℕ
+beyond = 49 ∷ 56 ∷ 52 ∷ 52 ∷ 54 ∷ 55 ∷ 52 ∷ 52 ∷ 48 ∷ 55 ∷ 51 ∷ 55 ∷ 48 ∷ 57 ∷ 53 ∷ 53 ∷ 49 ∷ []
+
 none : DirectionSummary
 none = record { count = 0; total = 0; largest = 0; mean = 0; remainder = 0 }
 
@@ -113,6 +138,9 @@ data Question : Type 0 where
   sheet-of : List ℕ → Question
   -- document 02, K2: the drum's row under Wrap with relaxation 1, uncut, by length and iterations
   drum-estimated : ℕ → ℕ → Question
+  -- document 02, K3: a file that is read; the row written, by the room there is
+  pgm-of : List ℕ → Question
+  row-as-pgm : ℕ → Question
 
 data Answer : Type 0 where
   direction : RasterDirection4 → Answer
@@ -125,6 +153,7 @@ data Answer : Type 0 where
   refused : ℕ → Answer
   planned : JobAnswer → Answer
   sheet : SummaryAnswer → Answer
+  read : PgmAnswer → Answer
 
 -- what a call gives, or its refusal
 unless : ℕ → Answer → Answer
@@ -166,8 +195,13 @@ along-row L iterations border =
       border = border;
     })
 
+-- the bytes that a call writes, or its refusal
+bytes : Decision (List ℕ) → Answer
+bytes (accepts xs) = pixels xs
+bytes (refuses number) = refused number
+
 value : Question → Answer
-unfolding three-ramps row written filtered estimated along-row
+unfolding three-ramps row written filtered estimated along-row bytes
 value (direction-of angle) = direction (fromAngle (ofBits binary64 angle))
 value (length-of-ramps minimum) =
     measured (lengthAnswer (lengthDecision (gray8 three-ramps 10 3 10) Horizontal minimum 24 30))
@@ -199,6 +233,8 @@ value (job-on-ramps minimum) =
 value row-binomial = written (binomialRefusal 5 5 1 5 5 5 1 5 5) (unsharp (pixel row 5) 5 1)
 value (sheet-of file) = sheet (summarized file)
 value (drum-estimated L iterations) = estimated (along-row L iterations Wrap)
+value (pgm-of file) = read (readAnswer (readDecision file))
+value (row-as-pgm room) = bytes (writeDecision (gray8 row 5 1 5) room)
 
 -- ---- the list
 
@@ -211,7 +247,7 @@ _gives_ : Question → Answer → Case
 q gives a = record { asked = q; must-be = a }
 
 cases : List Case
-unfolding _gives_ restored-over sharpened-over-3 binomial vertical-over-11 none
+unfolding _gives_ restored-over sharpened-over-3 binomial vertical-over-11 none row p5 d1 d255 d1025 beyond
 cases =
     -- "0.39 gives Horizontal★, 0.40 DownRight★, .. NaN Horizontal★"
     direction-of 0x3fd8_f5c2_8f5c_28f6 gives direction Horizontal
@@ -262,6 +298,33 @@ cases =
     ∷ drum-estimated 3 1 gives levels (pos 60 ∷ pos 0 ∷ pos 10 ∷ pos 10 ∷ pos 0 ∷ [])
     ∷ drum-estimated 3 2 gives levels (pos 80 ∷ negsuc 12 ∷ pos 14 ∷ pos 14 ∷ negsuc 12 ∷ [])
     ∷ drum-estimated 11 1 gives levels (pos 62 ∷ pos 5 ∷ pos 5 ∷ pos 5 ∷ pos 5 ∷ [])
+    -- K3: a comment alone separates; `255#` gives 14; in `255 #c` LF the `#` is a pixel; `255` CR LF and a byte gives
+    -- 16; a comment without an end gives 14
+    ∷ pgm-of (80 ∷ 53 ∷ 35 ∷ 97 ∷ 13 ∷ 53 ∷ 35 ∷ 98 ∷ 10 ∷ 49 ∷ 32 ∷ 9 ∷ d255 ++ (32 ∷ row))
+    gives read (pgm.Picture (record { width = 5; height = 1; start = 16 }))
+    ∷ pgm-of (p5 d1 d1 d255 ++ (35 ∷ 10 ∷ 7 ∷ [])) gives read (pgm.Refused 14)
+    ∷ pgm-of (p5 (51 ∷ []) d1 d255 ++ (32 ∷ 35 ∷ 99 ∷ 10 ∷ []))
+    gives read (pgm.Picture (record { width = 3; height = 1; start = 11 }))
+    ∷ pgm-of (p5 d1 d1 d255 ++ (13 ∷ 10 ∷ 7 ∷ [])) gives read (pgm.Refused 16)
+    ∷ pgm-of (p5 d1 d1 (35 ∷ d255)) gives read (pgm.Refused 14)
+    -- the order: `P5 0 1 255` at the end of the file gives 14; `P5 0 1025 7` LF gives 1; `P5 1025 1 7` LF gives 2
+    ∷ pgm-of (p5 (48 ∷ []) d1 d255) gives read (pgm.Refused 14)
+    ∷ pgm-of (p5 (48 ∷ []) d1025 (55 ∷ 10 ∷ [])) gives read (pgm.Refused 1)
+    ∷ pgm-of (p5 d1025 d1 (55 ∷ 10 ∷ [])) gives read (pgm.Refused 2)
+    -- a maximum of 0, 256 or 65,535
+    ∷ pgm-of (p5 d1 d1 (48 ∷ 10 ∷ 7 ∷ [])) gives read (pgm.Refused 15)
+    ∷ pgm-of (p5 d1 d1 (50 ∷ 53 ∷ 54 ∷ 10 ∷ 7 ∷ [])) gives read (pgm.Refused 15)
+    ∷ pgm-of (p5 d1 d1 (54 ∷ 53 ∷ 53 ∷ 51 ∷ 53 ∷ 10 ∷ 7 ∷ [])) gives read (pgm.Refused 15)
+    -- `0005` and `0255`; 18446744073709551621 as a width; 18446744073709551871 as a maximum
+    ∷ pgm-of (p5 (48 ∷ 48 ∷ 48 ∷ 53 ∷ []) d1 (48 ∷ d255) ++ (10 ∷ row))
+    gives read (pgm.Picture (record { width = 5; height = 1; start = 15 }))
+    ∷ pgm-of (p5 (beyond ++ (54 ∷ 50 ∷ 49 ∷ [])) d1 d255 ++ (10 ∷ row)) gives read (pgm.Refused 2)
+    ∷ pgm-of (p5 d1 d1 (beyond ++ (56 ∷ 55 ∷ 49 ∷ [])) ++ (10 ∷ 7 ∷ [])) gives read (pgm.Refused 15)
+    -- "10 10 40 10 10 written is 50 35 0A 35 0A 31 0A 32 35 35 0A 0A 0A 28 0A 0A"; room for 15 gives 5
+    ∷ row-as-pgm 16
+    gives pixels (0x50 ∷ 0x35 ∷ 0xa ∷ 0x35 ∷ 0xa ∷ 0x31 ∷ 0xa ∷ 0x32 ∷ 0x35 ∷ 0x35 ∷ 0xa
+    ∷ 0xa ∷ 0xa ∷ 0x28 ∷ 0xa ∷ 0xa ∷ [])
+    ∷ row-as-pgm 15 gives refused 5
     ∷ []
 
 -- ---- the theorem
@@ -272,5 +335,6 @@ unfolding cases value ofBits ofInt add sub mul div rem le lt eq fromAngle length
     sample total quantized deblur.filterRefusal deblur.estimateRefusal deblur.blurLengthRefusal deblur.angleRefusal
     deblur.factorRefusal deblur.iterationsRefusal estimate estimateOn iteration.after iteration.stepped plan jobRefusal
     pictureDirection estimateOf tensorSums tensorDirection interiorSum rowSum gradientX gradientY binomialRefusal
-    sharper binomialSum tapPlace count summarized readRecord recordOf decoded legal littleEndian
+    sharper binomialSum tapPlace count summarized readRecord recordOf decoded legal littleEndian onFrom readDecision
+    sidesRefusal digits digitCount tabulate
 stars = refl

@@ -6,6 +6,7 @@ ghost use Rattle.tensor.specs.Tensor.{directionAnswer, directionDecision};
 ghost use Rattle.deblur.specs.Calls.{Filtered, EstimateWritten};
 ghost use Rattle.deblur.specs.Settings.{restorationOf, unsharpOf};
 ghost use Rattle.job.specs.Job.{Restored};
+ghost use Rattle.pgm.specs.Write.{PgmWritten};
 ghost use Rattle.raster.specs.Direction.{fromAngle};
 ghost use Rattle.sharpen.specs.Call.{Sharpened};
 ghost use Rattle.views.specs.Pictures.{lent, seen};
@@ -18,6 +19,7 @@ use image::Gray8View;
 use image::Gray8ViewMut;
 use job::JobAnswer;
 use job::JobConfig;
+use pgm::WriteAnswer;
 use sharpen::SharpenAnswer;
 use swings::Swing;
 use tensor::direction::DirectionAnswer;
@@ -178,4 +180,10 @@ pub fn restore<'a, 'b>(
         scratch,
         swings,
     )
+}
+
+pub fn write_pgm<'a>(src: Gray8View<'a>, out: &mut [u8]) -> WriteAnswer
+    ensures { λ r. ⌜ PgmWritten (seen (src .entry)) (now (out .entry)) (now (out .exit)) r ⌝ }
+{
+    pgm::write(src.data, src.width, src.height, src.stride, out)
 }

@@ -8,8 +8,8 @@ use Rattle.numbers.specs.Written.{Painted}
 use Rattle.numbers.proofs.Places.{pixels-none}
 use Rattle.numbers.proofs.Written.{written-none}
 use Rattle.image.proofs.Refusal.{row-within}
-use Rattle.sharpen.proofs.Places.{row-end-within}
-use Rattle.sharpen.proofs.Rows.{rowSum, row-sums, row-part-length, row-part-sum, painted-row}
+use Rattle.image.proofs.Rows.{row-end-within, row-part-length, painted-row}
+use Rattle.sharpen.proofs.Rows.{rowSum, row-sums, row-part-sum}
 use Rattle.sharpen.proofs.kernel.blur_rows.Statement.{statement}
 use Rattle.sharpen.proofs.kernel.blur_rows.Tie as tie
 

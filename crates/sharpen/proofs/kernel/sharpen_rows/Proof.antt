@@ -13,7 +13,8 @@ use Rattle.image.proofs.Refusal.{row-within}
 use Rattle.sharpen.specs.Binomial.{tapPlace, unsharp}
 use Rattle.sharpen.specs.Passes.{Sums}
 use Rattle.sharpen.proofs.Binomial.{tap-lt}
-use Rattle.sharpen.proofs.Rows.{row-part-length, row-part-at, painted-row, sums-row, sharp-is}
+use Rattle.image.proofs.Rows.{row-part-length, row-part-at, painted-row}
+use Rattle.sharpen.proofs.Rows.{sums-row, sharp-is}
 use Rattle.sharpen.proofs.kernel.sharpen_rows.Statement.{statement}
 use Rattle.sharpen.proofs.kernel.sharpen_rows.Tie as tie
 

@@ -4,7 +4,7 @@ use native.Mathlib.Nat.{add-sub-cancel-left}
 use native.Mathlib.Omega.{arith}
 use lib.ListN.{length}
 use Rattle.sharpen.proofs.Binomial.{tap-lt}
-use Rattle.sharpen.proofs.Places.{row-end-within}
+use Rattle.image.proofs.Rows.{row-end-within}
 use borrow.Author.Needs.{needs}
 use Rattle.sharpen.proofs.kernel.tap_row.Statement.{statement}
 use Rattle.sharpen.proofs.kernel.tap_row.Tie as tie

@@ -1,0 +1,132 @@
+-- Bytes put from a place on: one run of them behind the other is one run.
+use Prim.Native.Nat.{ℕ, _+_, _-_, _≤_, _<_}
+use native.Mathlib.Nat.{add-assoc}
+use native.Mathlib.Numerals.{add-one}
+use native.Mathlib.Omega.{arith}
+use mathlib.Core.List.{List, [], _∷_, _++_, append-assoc, append-nil}
+use mathlib.Core.Path.{_≡_, sym, ap, ap₂, _∙_}
+use lib.ListN.{length, getD, set, take, drop, length-append, length-drop}
+use lib.Seq.{length-take-le, take-at, drop-at, drop-drop, drop-cons, set-at, take-length, drop-length}
+use Rattle.numbers.specs.Written.{Written, front}
+use Rattle.numbers.proofs.List.{length-part}
+use Rattle.numbers.proofs.Places.{front-iff}
+use Rattle.numbers.proofs.Test.{false-not-true}
+use Rattle.pgm.specs.Write.{digits, digitCount, decimal, numberLine}
+use Rattle.pgm.specs.Places.{Appended}
+use Rattle.pgm.proofs.Digits.{length-digits, length-line}
+
+module _ {xs ys old mid new : List ℕ} {at e f : ℕ} (within : at ≤ length old) (A : Appended xs at old mid e)
+    (B : Appended ys e mid new f) where
+  start : length (take at old ++ xs) ≡ at + length xs
+  start = length-append (take at old) xs ∙ ap (λ (n : ℕ). n + length xs) (length-take-le at old within)
+
+  joined : mid ≡ take at old ++ xs ++ drop (at + length xs) old
+  joined = A .bytes ∙ sym (append-assoc (take at old) xs (drop (at + length xs) old))
+
+  front-kept : take e mid ≡ take at old ++ xs
+  front-kept =
+      ap (take e) joined
+      ∙ take-at (take at old ++ xs) (drop (at + length xs) old) e (start ∙ sym (A .behind))
+
+  rest-kept : drop (e + length ys) mid ≡ drop (at + length (xs ++ ys)) old
+  rest-kept =
+      sym (drop-drop (length ys) e mid)
+      ∙ ap (drop (length ys))
+      (ap (drop e) joined ∙ drop-at (take at old ++ xs) (drop (at + length xs) old) e (start ∙ sym (A .behind)))
+      ∙ drop-drop (length ys) (at + length xs) old
+      ∙ ap (λ (n : ℕ). drop n old)
+      (add-assoc at (length xs) (length ys) ∙ ap (λ (n : ℕ). at + n) (sym (length-append xs ys)))
+
+  pub appended-then : Appended (xs ++ ys) at old new f
+  appended-then =
+      record {
+        behind = B .behind ∙ rw (A .behind) (omega (arith, length-append xs ys));
+        bytes = B .bytes ∙ ap₂ (λ (a b : List ℕ). a ++ (ys ++ b)) front-kept rest-kept
+            ∙ append-assoc (take at old) xs (ys ++ drop (at + length (xs ++ ys)) old)
+            ∙ ap (_++_ (take at old)) (sym (append-assoc xs ys (drop (at + length (xs ++ ys)) old)));
+      }
+
+-- all that was put is at the front
+pub appended-front : {xs old new : List ℕ} {e : ℕ} → Appended xs 0 old new e → new ≡ xs ++ drop (length xs) old
+appended-front {xs} {old} A =
+    let e : 0 + length xs ≡ length xs = omega arith in
+    A .bytes ∙ ap (λ (n : ℕ). xs ++ drop n old) e
+
+pub front-put : {xs old new : List ℕ} {e : ℕ} → e ≡ length xs → new ≡ xs ++ drop (length xs) old
+    → Appended xs 0 old new e
+front-put {xs} {old} is e =
+    let k : length xs ≡ 0 + length xs = omega arith in
+    record { behind = is ∙ k; bytes = e ∙ ap (λ (n : ℕ). xs ++ drop n old) k }
+
+-- a part up to e that has come back as ys
+pub part-put : (at e : ℕ) (old ys : List ℕ) → at ≤ e → length ys ≡ e - at
+    → Appended ys at old (take at old ++ (ys ++ drop (e - at) (drop at old))) e
+part-put at e old ys h same =
+    record {
+      behind = omega arith;
+      bytes =
+          ap (λ (zs : List ℕ). take at old ++ (ys ++ zs))
+          (drop-drop (e - at) at old ∙ ap (λ (n : ℕ). drop (at + n) old) (sym same));
+    }
+
+-- room for k more, where there was room for all
+pub appended-room : {xs old new : List ℕ} {e : ℕ} (k : ℕ) → Appended xs 0 old new e → length xs + k ≤ length old
+    → e + k ≤ length new
+appended-room {xs} {old} {new} k A h =
+    let a = ap length (appended-front A) ∙ length-append xs (drop (length xs) old) in
+    omega (arith, a, length-drop (length xs) old, A .behind)
+
+-- a part of digits that has come back as ys, and an LF behind it
+module _ (n at e : ℕ) (old ys : List ℕ) (is : e ≡ at + digitCount n) (below : e < length old)
+    (same : ys ≡ digits (length (take (e - at) (drop at old))) n) where
+  ys-are : ys ≡ decimal n
+  ys-are = same ∙ ap (λ (k : ℕ). digits k n) (length-part at (e - at) old (omega arith) ∙ omega arith)
+
+  behind-digits : drop (e - at) (drop at old) ≡ getD old e 0 ∷ drop (e + 1) old
+  behind-digits =
+      let k : at + (e - at) ≡ e = omega arith in
+      drop-drop (e - at) at old ∙ ap (λ (m : ℕ). drop m old) k ∙ rw (add-one e) (drop-cons old e 0 below)
+
+  here : length (take at old ++ ys) ≡ e
+  here =
+      length-append (take at old) ys
+      ∙ rw (length-take-le at old (omega arith), ys-are, length-digits (digitCount n) n) (sym is)
+
+  pub still-below : e < length (take at old ++ (ys ++ drop (e - at) (drop at old)))
+  still-below =
+      let a = ap length (append-assoc (take at old) ys (drop (e - at) (drop at old))) in
+      let b = length-append (take at old ++ ys) (drop (e - at) (drop at old)) in
+      let c = ap length behind-digits in
+      omega (arith, a, b, c, here)
+
+  pub line-put : Appended (numberLine n) at old (set (take at old ++ (ys ++ drop (e - at) (drop at old))) e 10) (e + 1)
+  line-put =
+      record {
+        behind = omega (arith, length-line n);
+        bytes =
+            let l : e + 1 ≡ at + length (numberLine n) = omega (arith, length-line n) in
+            ap (λ (zs : List ℕ). set zs e 10)
+            (ap (λ (zs : List ℕ). take at old ++ (ys ++ zs)) behind-digits
+            ∙ sym (append-assoc (take at old) ys (getD old e 0 ∷ drop (e + 1) old)))
+            ∙ set-at (take at old ++ ys) (getD old e 0) (drop (e + 1) old) 10 e here
+            ∙ append-assoc (take at old) ys (10 ∷ drop (e + 1) old)
+            ∙ ap (_++_ (take at old)) (sym (append-assoc ys (10 ∷ []) (drop (e + 1) old)))
+            ∙ ap₂ (λ (zs : List ℕ) (k : ℕ). take at old ++ (zs ++ (10 ∷ []) ++ drop k old)) ys-are l;
+      }
+
+-- ---- a copied row
+
+-- what `bytes::copy` leaves of as many bytes
+pub copied-written : (src dst : List ℕ) {new : List ℕ} → length src ≡ length dst
+    → new ≡ take (length src) src ++ drop (length src) dst
+    → Written 0 (front (length src)) (λ x. getD src x 0) dst new
+copied-written src dst {new} same e =
+    record {
+      same-length = ap length all ∙ same;
+      hits = λ j _ _. ap (λ (xs : List ℕ). getD xs j 0) all;
+      rest = λ j below miss. absurd (false-not-true miss (front-iff (length src) j .1 (omega arith)));
+    }
+  where
+    all : new ≡ src
+    all =
+        e ∙ ap₂ _++_ (take-length src) (ap (λ (n : ℕ). drop n dst) same ∙ drop-length dst) ∙ append-nil src

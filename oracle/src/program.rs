@@ -168,12 +168,19 @@ pub fn pictures(random: &mut Random, count: usize, tally: &mut Tally) {
     }
 }
 
-/// Room for the answer that is too short by one, just enough, one more, or any.
+/// Room for the answer that is too short by one, just enough, one more, none or any; room for pixels and record, or a
+/// byte less, also where the picture lacks a pixel, so that the answer is a text.
 pub fn room(random: &mut Random, count: usize, tally: &mut Tally) {
     for _ in 0..count {
-        let run = good(random);
+        let mut run = good(random);
+        let side = |at: usize| usize::from(u16::from_le_bytes([run.job[at], run.job[at + 1]]));
+        let whole = side(0) * side(2) + 32;
+        if random.below(4) == 0 {
+            run.picture.truncate(whole - 33);
+        }
         let needed = printed(&run.job, &run.picture).map_or(ROOM, |answer| answer.len());
-        let room = [needed - 1, needed, needed + 1, 0, random.below(ROOM as u64) as usize][random.below(5) as usize];
-        tally.check(Run { room, ..run });
+        let any = random.below(ROOM as u64) as usize;
+        let rooms = [needed - 1, needed, needed + 1, 0, any, whole - 1, whole];
+        tally.check(Run { room: rooms[random.below(7) as usize], ..run });
     }
 }

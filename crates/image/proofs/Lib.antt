@@ -10,6 +10,7 @@ pub mod Picture
 pub mod Rows
 pub mod Tight
 pub mod Front
+pub mod Appending
 pub mod ViewParameters
 pub mod ViewRefusal
 pub mod Examples

@@ -1,11 +1,11 @@
 -- The one shape of a contract: what a call decides, answers, writes and leaves (document 01, "Refusals, first match
 -- wins").
-use Prim.Native.Nat.{ℕ, zero, suc}
+use Prim.Native.Nat.{ℕ, zero, suc, _+_}
 use mathlib.Core.Bool.{cond}
 use mathlib.Core.List.{List, _++_}
 use mathlib.Core.Path.{_≡_}
 use lib.Dec.{ltb}
-use lib.ListN.{length, drop}
+use lib.ListN.{length, take, drop}
 
 -- a picture in a slice of bytes
 pub record Gray8 : Type 0 where
@@ -76,3 +76,8 @@ roomFor number room xs = cond (ltb room (length xs)) (refuses number) (accepts x
 -- in the front of the slice, the rest as before
 abbrev pub frontWrites : List ℕ → List ℕ → List ℕ → Type 0
 frontWrites xs old new = new ≡ xs ++ drop (length xs) old
+
+-- bytes from `at` on, and the place behind them; the rest as before
+pub record Appended (xs : List ℕ) (at : ℕ) (old new : List ℕ) (end : ℕ) : Type 0 where
+  pub behind : end ≡ at + length xs
+  pub bytes : new ≡ take at old ++ (xs ++ drop (at + length xs) old)

@@ -6,17 +6,16 @@ use mathlib.Core.List.{List, _++_}
 use mathlib.Core.Path.{_≡_, refl, sym, ap, _∙_}
 use lib.ListN.{length, take, drop, length-append}
 use Rattle.numbers.proofs.List.{length-part}
-use Rattle.image.specs.Call.{Gray8, Decision, accepts, refuses, unless, roomFor, frontWrites}
+use Rattle.image.specs.Call.{Gray8, Decision, accepts, refuses, unless, roomFor, frontWrites, Appended}
 use Rattle.image.specs.Picture.{pixel, pixelsOf}
 use Rattle.image.specs.Refusal.{layoutRefusal}
+use Rattle.image.proofs.Appending.{appended-then, appended-front, front-put, part-put}
 use Rattle.image.proofs.Call.{unless-refuses, outcome-refused, outcome-accepted}
 use Rattle.image.proofs.Front.{room-short, room-whole, counted, counted-kept}
 use Rattle.image.proofs.Tight.{length-pixels}
 use Rattle.pgm.specs.Write.{headerLines, pgmBytes, writeDecision, writeAnswer, PgmWritten}
-use Rattle.pgm.specs.Places.{Appended}
 use Rattle.pgm.specs.declared.WriteAnswer.{WriteAnswer}
 use Rattle.pgm.specs.declared.WriteAnswer.the-variants.{Written, Refused}
-use Rattle.pgm.proofs.Appending.{appended-then, appended-front, front-put, part-put}
 
 pub length-file : (src : Gray8)
     → length (pgmBytes src) ≡ length (headerLines (src .width) (src .height)) + src .width * src .height

@@ -1,10 +1,10 @@
--- What the parts of reader and writer state: places of a file, and numbers that are cut. Only contracts inside the
--- crate cite these.
+-- What the parts of the reader state: places of a file, and numbers that are cut. Only contracts inside the crate cite
+-- these.
 use Prim.Native.Nat.{ℕ, _+_, _-_, _≤_, min}
 use mathlib.Core.Bool.{cond}
-use mathlib.Core.List.{List, [], _∷_, _++_}
+use mathlib.Core.List.{List, [], _∷_}
 use mathlib.Core.Path.{_≡_}
-use lib.ListN.{length, take, drop}
+use lib.ListN.{length, drop}
 use Rattle.image.specs.Call.{Decision, accepts, refuses, decided}
 use Rattle.image.specs.Refusal.{maxSide}
 use Rattle.pgm.specs.Form.{isWhite, valueOf}
@@ -67,10 +67,3 @@ pictureAnswer h len =
     readAnswer
     (decided (pictureRefusal (h .width) (h .height) (h .maximum) (len - h .start))
     (record { width = h .width; height = h .height; start = h .start }))
-
--- ---- writing
-
--- bytes from `at` on, and the place behind them; the rest as before
-pub record Appended (xs : List ℕ) (at : ℕ) (old new : List ℕ) (end : ℕ) : Type 0 where
-  pub behind : end ≡ at + length xs
-  pub bytes : new ≡ take at old ++ (xs ++ drop (at + length xs) old)

@@ -3,10 +3,10 @@ ghost use mathlib.Core.Path.{_≡_};
 ghost use mathlib.Core.List.{_++_};
 ghost use Prim.Native.Nat.{_+_, _*_, _≤_};
 ghost use lib.ListN.{length, drop};
+ghost use Rattle.image.specs.Call.{Appended};
 ghost use Rattle.image.specs.Picture.{pixel, pixelsOf};
 ghost use Rattle.image.specs.Refusal.{Laid};
 ghost use Rattle.pgm.specs.Write.{digits, digitCount, numberLine, headerLines};
-ghost use Rattle.pgm.specs.Places.{Appended};
 
 // How many digits a number below 10,000 has.
 fn digit_count(n: usize) -> usize

@@ -138,3 +138,11 @@ record-bytes r = go (recordFields r)
     go : (z : FieldsAnswer) → writeNumber z ≡ 0 → length (writeBytes z []) ≡ 32
     go (Legal f) w = encoded-length f
     go Broken w = absurd (omega (arith, w))
+
+-- a refusal leaves the slice as it was
+pub refused-kept : (r : Record) (old new : List ℕ) (number : ℕ) → Wrote r old new number → (number ≡ 0 → ⊥) → new ≡ old
+refused-kept r old new number w some = go (toWrite r old) (w .answers) (w .bytes)
+  where
+    go : (z : FieldsAnswer) → number ≡ writeNumber z → new ≡ writeBytes z old → new ≡ old
+    go (Legal f) e b = absurd (some e)
+    go Broken e b = b

@@ -3,8 +3,10 @@ use mathlib.Core.Path.{_≡_, refl}
 use mathlib.Core.Bool.{Bool, true, false}
 use mathlib.Core.List.{List, [], _∷_, _++_, map}
 use Prim.Native.Nat.{ℕ}
+use native.Mathlib.Omega.{arith}
 use lib.IntN.{pos}
 use lib.ListN.{replicate, set, take}
+use lib.Seq.{sets}
 use lib.Ieee.{fin, binary64, ofBits, toBits, div, ofInt, lt}
 use Rattle.floats.specs.Factor.{quantized, factorOf}
 use Rattle.floats.specs.declared.Quantized.the-variants.{Q16, Refused}
@@ -13,11 +15,12 @@ use Rattle.raster.specs.declared.border.LineBorderMode.the-variants.{Replicate}
 use Rattle.record.specs.Bytes.{littleEndian, bytesOf}
 use Rattle.record.specs.Fields.{decoded, encoded, legal}
 use Rattle.record.specs.Record.{recordOf, isFactor, filterQ, recordFields, readRecord, toWrite}
-use Rattle.record.specs.Record.{writeBytes, isJob}
+use Rattle.record.specs.Record.{writeBytes, Wrote, isJob}
 use Rattle.record.specs.declared.RecordFilter.the-variants.{Restoration, Unsharp}
 use Rattle.record.specs.declared.Record.{Record}
 use Rattle.record.specs.declared.ReadAnswer.{ReadAnswer}
 use Rattle.record.specs.declared.ReadAnswer.the-variants as answer
+use Rattle.record.proofs.Answer.{refused-kept}
 
 -- ---- width 5, height 1, restoration, length 3, one iteration, q 65,536
 
@@ -165,3 +168,10 @@ too-large = refl
 gain : filterQ (Unsharp (ofBits binary64 0x3ff8_0000_0000_0000)) ≡ Q16 98304
 unfolding filterQ isFactor quantized factorOf div ofInt toBits ofBits
 gain = refl
+
+-- ---- document 02, K4: a refusal that has put the first field, where another width stood, breaks the contract
+
+first-field-first : (r : Record) (old : List ℕ) → (sets old 0 (bytesOf 2 (r .width)) ≡ old → ⊥)
+    → Wrote r old (sets old 0 (bytesOf 2 (r .width))) 13 → ⊥
+first-field-first r old other w =
+    other (refused-kept r old (sets old 0 (bytesOf 2 (r .width))) 13 w (λ z. omega (arith, z)))

@@ -95,7 +95,7 @@ uint8_t smear_restore(
  * "refused N\n" (13 where `job` is no job's record) and "too large\n" (more than 4,096 pixels). *written is how many
  * bytes that is, at most 4,128; what stands behind them in `out` is not changed. 10 where `out` is shorter, and nothing
  * is changed.
- * On the stack: local arrays of at most 151,584 bytes. */
+ * On the stack: local arrays of at most 151,552 bytes. */
 uint8_t smear_run(
     const uint8_t *job, size_t job_len, const uint8_t *picture, size_t picture_len,
     uint8_t *out, size_t out_len, size_t *written);

@@ -1,45 +1,39 @@
--- Bytes at the front of a slice.
-use mathlib.Core.Path.{_≡_, refl, sym, ap, _∙_}
-use mathlib.Core.List.{List, [], _∷_, _++_, append-assoc}
-use Prim.Native.Nat.{ℕ, _+_, _-_, _/_, _%_, _≤_, _<_}
-use native.Mathlib.Omega.{arith}
+-- Bytes put in the front of a slice; and the text of a refusal.
+use mathlib.Core.Path.{_≡_, refl, ap, _∙_}
+use mathlib.Core.List.{List, [], _∷_, _++_}
+use Prim.Native.Nat.{ℕ, _+_, _/_, _%_, _≤_, _<_}
 use borrow.Author.Tests.{lt-ltb, le-ltb}
-use lib.ListN.{length, take, drop, length-append, length-take}
-use lib.Seq.{take-at, length-take-le}
-use Rattle.smear_run.specs.Output.{refusedText}
-use Rattle.smear_run.specs.Parts.{Front}
+use lib.ListN.{length, take, drop}
+use lib.Seq.{take-length}
+use Rattle.image.specs.Call.{frontWrites}
+use Rattle.image.proofs.Call.{outcome-accepted, outcome-refused}
+use Rattle.image.proofs.Front.{room-short, room-whole}
+use Rattle.smear_run.specs.Output.{refusedText, runAnswer}
+use Rattle.smear_run.specs.Parts.{Put}
+use Rattle.smear_run.specs.declared.RunAnswer.the-variants.{Written, Refused}
 
--- a front fits
-pub front-fits : {xs new : List ℕ} {n : ℕ} → Front xs new n → n ≤ length new
-front-fits {new = new} {n} f =
-    let e : length (take n new) ≡ n = ap length (f .bytes) ∙ sym (f .count) in
-    let m = length-take n new in
-    omega arith
+module _ (xs old : List ℕ) where
+  pub put-short : length old < length xs → Put xs old old (Refused 10)
+  put-short h = outcome-refused runAnswer frontWrites old tt 10 (room-short 10 xs h) refl
+
+  pub put-whole : {new : List ℕ} {n : ℕ} → length xs ≤ length old → n ≡ length xs → frontWrites xs old new
+      → Put xs old new (Written n)
+  put-whole {new} h e w = outcome-accepted runAnswer frontWrites old tt xs new tt (room-whole 10 xs h) (ap Written e) w
+
+  -- what `bytes::copy` leaves
+  pub put-copied : {new : List ℕ} {n : ℕ} → length xs ≤ length old → n ≡ length xs
+      → new ≡ take (length xs) xs ++ drop (length xs) old → Put xs old new (Written n)
+  put-copied h e w = put-whole h e (w ∙ ap (λ (ys : List ℕ). ys ++ drop (length xs) old) (take-length xs))
 
 -- the text of a refusal: a number of one digit, or of two
-abbrev pub oneDigit : ℕ → List ℕ
-oneDigit number = 114 ∷ 101 ∷ 102 ∷ 117 ∷ 115 ∷ 101 ∷ 100 ∷ 32 ∷ (48 + number % 10) ∷ 10 ∷ []
-
-abbrev pub twoDigits : ℕ → List ℕ
-twoDigits number = 114 ∷ 101 ∷ 102 ∷ 117 ∷ 115 ∷ 101 ∷ 100 ∷ 32 ∷ (48 + number / 10) ∷ (48 + number % 10) ∷ 10 ∷ []
-
-module _ (number : ℕ) (old : List ℕ) {new : List ℕ} {n : ℕ} where
-  pub one-digit : number < 10 → n ≡ 10 → new ≡ oneDigit number ++ drop 10 old → Front (refusedText number) new n
+module _ (number : ℕ) where
+  pub one-digit : number < 10
+      → refusedText number ≡ 114 ∷ 101 ∷ 102 ∷ 117 ∷ 115 ∷ 101 ∷ 100 ∷ 32 ∷ (48 + number % 10) ∷ 10 ∷ []
   unfolding refusedText
-  one-digit h e k = rw (lt-ltb number 10 h) (record { count = e; bytes = rw (e, k) refl })
+  one-digit h = rw (lt-ltb number 10 h) refl
 
-  pub two-digits : 10 ≤ number → n ≡ 11 → new ≡ twoDigits number ++ drop 11 old → Front (refusedText number) new n
+  pub two-digits : 10 ≤ number
+      → refusedText number
+      ≡ 114 ∷ 101 ∷ 102 ∷ 117 ∷ 115 ∷ 101 ∷ 100 ∷ 32 ∷ (48 + number / 10) ∷ (48 + number % 10) ∷ 10 ∷ []
   unfolding refusedText
-  two-digits h e k = rw (le-ltb number 10 h) (record { count = e; bytes = rw (e, k) refl })
-
--- a front of n, and behind it a part up to e that has come back as ys
-pub front-joined : (n e : ℕ) (old ys : List ℕ) → n ≤ e → e ≤ length old → length ys ≡ e - n
-    → Front (take n old ++ ys) (take n old ++ (ys ++ drop (e - n) (drop n old))) e
-front-joined n e old ys h k same =
-    let front : length (take n old) ≡ n = length-take-le n old (omega arith) in
-    let l : length (take n old ++ ys) ≡ e = length-append (take n old) ys ∙ omega arith in
-    record {
-      count = sym l;
-      bytes = ap (take e) (sym (append-assoc (take n old) ys (drop (e - n) (drop n old))))
-          ∙ take-at (take n old ++ ys) (drop (e - n) (drop n old)) e l;
-    }
+  two-digits h = rw (le-ltb number 10 h) refl

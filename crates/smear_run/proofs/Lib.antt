@@ -5,6 +5,7 @@ pub mod Fronts
 pub mod Stages
 pub mod Printed
 pub mod Results
+pub mod Straight
 pub mod Most
 pub mod Surplus
 pub mod Examples

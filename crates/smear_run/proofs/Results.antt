@@ -38,8 +38,6 @@ use Rattle.smear_run.specs.Stage.{
   stage,
 }
 use Rattle.smear_run.specs.Output.{output}
-use Rattle.smear_run.specs.Parts.{Filtered, Writable}
-use Rattle.smear_run.specs.declared.filters.FilterAnswer.{FilterAnswer}
 use Rattle.smear_run.proofs.Stages.{stage-job, stage-restoration, stage-unsharp, stage-binomial}
 use Rattle.smear_run.proofs.Printed.{of-record, of-stage}
 
@@ -107,15 +105,6 @@ module _ (bytes : List ℕ) (r : Record) (reads : readRecord bytes ≡ read.Reco
 
   pub result-written : (m : Made) → stage r picture ≡ accepts m → writeNumber (recordFields (m .result)) ≡ 0
   result-written m e = subst Written e stage-written
-
-  -- what a filter answers
-  pub answer-writable : (old new : List ℕ) (answer : FilterAnswer)
-      → Filtered (stage r picture) r old new answer → Writable answer
-  answer-writable old new answer = go (stage r picture) stage-written
-    where
-      go : (d : Decision Made) → Written d → Filtered d r old new answer → Writable answer
-      go (accepts m) w f = rw (f .answered) w
-      go (refuses number) w f = rw (f .answered) tt
 
   -- "pixels, then the result"
   pub output-result : (m : Made) → r .width * r .height ≤ 4096 → stage r picture ≡ accepts m

@@ -1,4 +1,4 @@
--- What the filters answer, as decisions of the stage; and what is printed of one.
+-- What the filters answer, as decisions of the stage; and what it decided, by their answer.
 use mathlib.Core.Path.{_≡_, refl, sym, ap, _∙_}
 use mathlib.Core.List.{List}
 use Prim.Native.Nat.{ℕ, _*_, _<_}
@@ -11,13 +11,11 @@ use lib.Ieee.{Float}
 use lib.ListN.{length}
 use Rattle.image.specs.Call.{gray8, Decision, accepts, refuses, Outcome}
 use Rattle.image.proofs.Call.{outcome-accepted, outcome-refused}
-use Rattle.image.proofs.Tight.{painted-list}
 use Rattle.raster.specs.declared.direction.RasterDirection4.{RasterDirection4}
 use Rattle.swings.specs.declared.Swing.{Swing}
 use Rattle.deblur.specs.Calls as calls
 use Rattle.deblur.specs.Settings.{LineFilter, restorationOf, unsharpOf}
 use Rattle.deblur.specs.declared.RestorationAnswer.{RestorationAnswer}
-use Rattle.sharpen.specs.Binomial.{unsharp}
 use Rattle.sharpen.specs.Call as sharpening
 use Rattle.sharpen.specs.declared.SharpenAnswer.{SharpenAnswer}
 use Rattle.job.specs.Job.{Job, plan, jobAnswer, Restored}
@@ -43,7 +41,6 @@ use Rattle.smear_run.specs.Stage.{
   binomialStage,
   stage,
 }
-use Rattle.smear_run.specs.Output.{thenRecord, printed}
 use Rattle.smear_run.specs.Parts.{
   lineAnswer,
   measuredAnswer,
@@ -52,9 +49,9 @@ use Rattle.smear_run.specs.Parts.{
   filterWrites,
   Filtered,
   Measured,
-  finished,
 }
 use Rattle.smear_run.specs.declared.filters.FilterAnswer.{FilterAnswer}
+use Rattle.smear_run.specs.declared.filters.FilterAnswer.the-variants.{Done, Refused}
 
 module _ (r : Record) (old new : List ℕ) (answer : FilterAnswer) where
   -- a call's outcome, as the filter's: `tells` is its answer's part in the filter's
@@ -109,15 +106,16 @@ module _ (r : Record) (old new : List ℕ) (answer : FilterAnswer) where
   job-filtered picture relaxation {config} ec el ek m e =
       rw (← ec, ← el, ← ek) (filtered-by (jobMade r config picture) (measuredAnswer r) (job-told config picture) m e)
 
-  -- ---- what is printed
+-- ---- what the stage decided, by the filter's answer
 
-  pub filtered-printed : (d : Decision Made) → length new ≡ r .width * r .height → Filtered d r old new answer
-      → finished answer new ≡ printed r d
-  filtered-printed (accepts m) l f =
-      ap (λ (x : FilterAnswer). finished x new) (f .answered)
-      ∙ ap (λ (xs : List ℕ). thenRecord xs (m .result))
-      (painted-list (m .pixels) (r .width) (r .height) (f .written m refl) l)
-  filtered-printed (refuses number) l f = ap (λ (x : FilterAnswer). finished x new) (f .answered)
+pub done-accepts : (d : Decision Made) {result : Record} → Done result ≡ filterAnswer d
+    → (m : Made) × ((d ≡ accepts m) × (result ≡ m .result))
+done-accepts (accepts m) e = (m, (refl, cc))
+done-accepts (refuses number) e = absurd (let z : _≡_ {A = ℕ} 0 1 = cc in omega arith)
+
+pub refused-refuses : (d : Decision Made) {number : ℕ} → Refused number ≡ filterAnswer d → d ≡ refuses number
+refused-refuses (accepts m) e = absurd (let z : _≡_ {A = ℕ} 0 1 = cc in omega arith)
+refused-refuses (refuses k) {number} e = let same : k ≡ number = cc in ap refuses same
 
 -- ---- which filter it is
 

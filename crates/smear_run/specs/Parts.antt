@@ -1,30 +1,32 @@
 -- What the parts of the program's work state. Only contracts inside the crate cite these.
 use mathlib.Core.Path.{_≡_}
+use mathlib.Core.Bool.{true}
 use mathlib.Core.List.{List}
-use Prim.Native.Nat.{ℕ}
-use lib.ListN.{length, take}
+use Prim.Native.Nat.{ℕ, _*_, _≤_}
+use lib.ListN.{length}
 use Rattle.numbers.specs.Written.{Painted}
 use Rattle.deblur.specs.declared.RestorationAnswer.{RestorationAnswer}
 use Rattle.deblur.specs.declared.RestorationAnswer.the-variants as line
 use Rattle.sharpen.specs.declared.SharpenAnswer.{SharpenAnswer}
 use Rattle.sharpen.specs.declared.SharpenAnswer.the-variants as sharpen
-use Rattle.image.specs.Call.{gray8, Decision, accepts, refuses, Outcome}
+use Rattle.image.specs.Call.{gray8, Decision, accepts, refuses, frontWrites, Outcome}
 use Rattle.job.specs.Job.{jobAnswer, jobWrites}
 use Rattle.job.specs.declared.JobAnswer.{JobAnswer}
 use Rattle.job.specs.declared.JobAnswer.the-variants as job
 use Rattle.job.specs.declared.JobConfig.{JobConfig}
-use Rattle.record.specs.Record.{recordFields, writeNumber, readRecord}
+use Rattle.record.specs.Record.{readRecord, isJob}
 use Rattle.record.specs.declared.Record.{Record}
 use Rattle.record.specs.declared.ReadAnswer.the-variants as read
-use Rattle.smear_run.specs.Stage.{Made, withDirection, jobResult, planned}
-use Rattle.smear_run.specs.Output.{refusedText, thenRecord}
+use Rattle.smear_run.specs.Stage.{mostPixels, Made, withDirection, jobResult, planned}
+use Rattle.smear_run.specs.Output.{runDecision, runAnswer}
+use Rattle.smear_run.specs.declared.RunAnswer.{RunAnswer}
 use Rattle.smear_run.specs.declared.filters.FilterAnswer.{FilterAnswer}
 use Rattle.smear_run.specs.declared.filters.FilterAnswer.the-variants.{Done, Refused}
 
--- the first n elements are xs, all of it
-pub record Front (xs new : List ℕ) (n : ℕ) : Type 0 where
-  pub count : n ≡ length xs
-  pub bytes : take n new ≡ xs
+-- bytes in the front of a slice, or 10 where it has no room for them
+abbrev pub Put : List ℕ → List ℕ → List ℕ → RunAnswer → Type 0
+Put xs old new answer =
+    Outcome (runDecision (length old) xs) runAnswer frontWrites old new (tt {0}) (tt {0}) answer
 
 -- ---- a filter
 
@@ -58,18 +60,16 @@ Measured picture width height config scratchLen old new answer =
     Outcome (planned picture width height (length old) config scratchLen) jobAnswer
     (jobWrites (gray8 picture width height width) width config) old new (tt {0}) (tt {0}) answer
 
--- ---- the end
+-- ---- a record
 
--- a record that some bytes read as
+-- one that some bytes read as
 pub record Legible (r : Record) : Type 0 where
   pub bytes : List ℕ
   pub reads : readRecord bytes ≡ read.Record r
 
--- a result that can be written
-abbrev pub Writable : FilterAnswer → Type 0
-Writable (Done result) = writeNumber (recordFields result) ≡ 0
-Writable (Refused number) = Unit {0}
-
-abbrev pub finished : FilterAnswer → List ℕ → List ℕ
-finished (Done result) pixels = thenRecord pixels result
-finished (Refused number) pixels = refusedText number
+-- a job of n pixels that is not too large
+pub record SmallJob (r : Record) (n : ℕ) : Type 0 where
+  pub legible : Legible r
+  pub is-job : isJob r ≡ true
+  pub count : n ≡ r .width * r .height
+  pub few : n ≤ mostPixels

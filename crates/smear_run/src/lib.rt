@@ -1,6 +1,8 @@
 // The program's work on slices: a job's record and a picture in, what is printed out.
 ghost use Rattle.smear_run.specs.Output.{Ran};
-use crate::output::compose;
+use crate::output::run_record;
+use crate::text::put_refusal;
+use record::ReadAnswer;
 
 mod filters;
 mod output;
@@ -24,16 +26,13 @@ pub enum RunAnswer {
 }
 
 // What the program prints for a job's record and a tight picture, in the front of `out`: pixels and the result's
-// record, or a text. 10 where `out` is shorter than that, which is at most `MOST_PRINTED`. On the stack: 4,128 bytes
-// here, and what the filter owns (`filters`, `whole_job`).
+// record, or a text. 10 where `out` is shorter than that, which is at most `MOST_PRINTED`. On the stack: what the
+// filter owns (`filters`, `whole_job`), and 4,096 bytes where `out` has no room for pixels and record (`output`).
 pub fn run(job: &[u8], picture: &[u8], out: &mut [u8]) -> RunAnswer
     ensures { λ r. ⌜ Ran (now (job .entry)) (now (picture .entry)) (now (out .entry)) (now (out .exit)) r ⌝ }
 {
-    let mut made = [0u8; MOST_PRINTED];
-    let n = compose(job, picture, &mut made);
-    if out.len() < n {
-        return RunAnswer::Refused(10);
+    match record::read(job) {
+        ReadAnswer::Record(record) => run_record(record, picture, out),
+        ReadAnswer::Refused(number) => put_refusal(number, out),
     }
-    bytes::copy(&made[..n], out);
-    RunAnswer::Written(n)
 }

@@ -1,54 +1,60 @@
-// What the program prints, at the front of a slice of 4,128 bytes, which is room for all of it.
-ghost use mathlib.Core.Path.{_≡_};
-ghost use Prim.Native.Nat.{_+_, _≤_};
-ghost use lib.ListN.{length, take};
-ghost use Rattle.smear_run.specs.Output.{jobOutput, output};
-ghost use Rattle.smear_run.specs.Parts.{Legible, Writable, finished, Front};
+// What the program prints for a record, in the front of a slice.
+ghost use Prim.Native.Nat.{_+_, _≤_, _<_};
+ghost use lib.ListN.{length};
+ghost use Rattle.smear_run.specs.Stage.{stage};
+ghost use Rattle.smear_run.specs.Output.{printed, jobOutput};
+ghost use Rattle.smear_run.specs.Parts.{Legible, SmallJob, Put};
 use crate::MOST_PIXELS;
+use crate::RunAnswer;
 use crate::filters::FilterAnswer;
 use crate::filters::filter;
 use crate::text::put_refusal;
 use crate::text::put_too_large;
-use record::ReadAnswer;
 use record::Record;
 
-// The result's record behind n pixels, or the refusal. The result of a job is one that `write` takes.
-fn finish(answer: FilterAnswer, n: usize, made: &mut [u8]) -> usize
-    requires { ⌜ (n + 32 ≤ length (now made)) × Writable answer ⌝ }
-    ensures { λ r. ⌜ Front (finished answer (take n (now (made .entry)))) (now (made .exit)) r ⌝ }
+// Where there is room for pixels and record, both go straight to `out`. The result of a job is one that `write` takes.
+fn run_whole(record: Record, picture: &[u8], n: usize, out: &mut [u8]) -> RunAnswer
+    requires { ⌜ SmallJob «record» n × (n + 32 ≤ length (now out)) ⌝ }
+    ensures { λ r. ⌜ Put (printed «record» (stage «record» (now (picture .entry))))
+        (now (out .entry)) (now (out .exit)) r ⌝ }
 {
-    match answer {
+    match filter(record, picture, &mut out[..n]) {
         FilterAnswer::Done(result) => {
             let end = n + 32;
-            record::write(result, &mut made[n..end]);
-            end
+            record::write(result, &mut out[n..end]);
+            RunAnswer::Written(end)
         }
-        FilterAnswer::Refused(number) => put_refusal(number, made),
+        FilterAnswer::Refused(number) => put_refusal(number, out),
+    }
+}
+
+// Where there is none, a refusal's text may still have room. On the stack: 4,096 bytes, of pixels that are not printed.
+fn run_short(record: Record, picture: &[u8], n: usize, out: &mut [u8]) -> RunAnswer
+    requires { ⌜ SmallJob «record» n × (length (now out) < n + 32) ⌝ }
+    ensures { λ r. ⌜ Put (printed «record» (stage «record» (now (picture .entry))))
+        (now (out .entry)) (now (out .exit)) r ⌝ }
+{
+    let mut pixels = [0u8; MOST_PIXELS];
+    match filter(record, picture, &mut pixels[..n]) {
+        FilterAnswer::Done(_) => RunAnswer::Refused(10),
+        FilterAnswer::Refused(number) => put_refusal(number, out),
     }
 }
 
 // What is printed for a record that was read.
-fn compose_record(record: Record, picture: &[u8], made: &mut [u8]) -> usize
-    requires { ⌜ (length (now made) ≡ 4128) × Legible «record» ⌝ }
-    ensures { λ r. ⌜ Front (jobOutput «record» (now (picture .entry))) (now (made .exit)) r ⌝ }
+pub(crate) fn run_record(record: Record, picture: &[u8], out: &mut [u8]) -> RunAnswer
+    requires { ⌜ Legible «record» ⌝ }
+    ensures { λ r. ⌜ Put (jobOutput «record» (now (picture .entry))) (now (out .entry)) (now (out .exit)) r ⌝ }
 {
     if !record::is_job(record) {
-        return put_refusal(13, made);
+        return put_refusal(13, out);
     }
     let n = record.width as usize * record.height as usize;
     if n > MOST_PIXELS {
-        return put_too_large(made);
+        return put_too_large(out);
     }
-    let answer = filter(record, picture, &mut made[..n]);
-    finish(answer, n, made)
-}
-
-pub(crate) fn compose(job: &[u8], picture: &[u8], made: &mut [u8]) -> usize
-    requires { ⌜ length (now made) ≡ 4128 ⌝ }
-    ensures { λ r. ⌜ Front (output (now (job .entry)) (now (picture .entry))) (now (made .exit)) r ⌝ }
-{
-    match record::read(job) {
-        ReadAnswer::Record(record) => compose_record(record, picture, made),
-        ReadAnswer::Refused(number) => put_refusal(number, made),
+    if out.len() < n + 32 {
+        return run_short(record, picture, n, out);
     }
+    run_whole(record, picture, n, out)
 }

@@ -1,50 +1,62 @@
 -- `smear_run::run` meets its contract.
 use borrow.Author.Needs.{needs}
-use mathlib.Core.Path.{sym}
-use lib.Seq.{length-take-le}
-use Rattle.smear_run.proofs.Fronts.{front-fits}
-use Rattle.smear_run.proofs.Printed.{ran-short, ran-whole}
+use mathlib.Core.Path.{sym, _∙_}
+use Rattle.smear_run.proofs.Printed.{of-record, of-refused}
 use Rattle.smear_run.proofs.run.Statement.{statement}
 use Rattle.smear_run.proofs.run.Tie as tie
 
-slice-aggregate-compose : tie.Need-slice-aggregate-compose
-slice-aggregate-compose c = search needs
+read-requires : tie.Need-read-requires
+read-requires c κs = search needs
 
-compose-requires : tie.Need-compose-requires
-compose-requires c κs = search needs
+enum-known-record : tie.Need-enum-known-record
+enum-known-record c = search needs
 
-returns : tie.Need-returns
-returns c = ran-short _ _ (c .before .before .compose .ensures) _ (c .if1 .taken)
+run-record-requires : tie.Need-run-record-requires
+run-record-requires c κs =
+    let named = c .before .before in
+    let called = named .before .before in
+    record { bytes = _; reads = sym (called .read .ensures) ∙ named .«record» .given .1 }
 
-array-share-prefix-made : tie.Need-array-share-prefix-made
-array-share-prefix-made c = front-fits (c .before .before .compose .ensures)
+enum-known-number : tie.Need-enum-known-number
+enum-known-number c = search needs
 
-slice-aggregate-copy : tie.Need-slice-aggregate-copy
-slice-aggregate-copy c = sym (length-take-le _ _ (front-fits (c .before .before .before .compose .ensures)))
-
-copy-requires : tie.Need-copy-requires
-copy-requires c κs =
-    let at-compose = c .before .before .before .before in
-    rw (length-take-le _ _ (front-fits (at-compose .compose .ensures))) (c .before .before .if1 .left)
+put-refusal-requires : tie.Need-put-refusal-requires
+put-refusal-requires c κs = search needs
 
 same-length : tie.Need-same-length
 same-length c = search needs
 
+returns : tie.Need-returns
+returns c =
+    let ran = c .before .before in
+    let named = ran .before .before .before in
+    let called = named .before .before in
+    let start = called .before .before .before .before in
+    rw (of-record (start .args .job .now) (start .args .picture .now)
+    (sym (called .read .ensures) ∙ named .«record» .given .1)) (ran .run-record .ensures)
+
+same-length-2 : tie.Need-same-length-2
+same-length-2 c = search needs
+
 returns-2 : tie.Need-returns-2
 returns-2 c =
-    let at-if1 = c .before .before .before .before .before in
-    let at-compose = at-if1 .before .before in
-    ran-whole _ _ (at-compose .compose .ensures) _ (at-if1 .if1 .left) (c .before .before .copy .ensures .1)
+    let put = c .before .before in
+    let named = put .before .before .before in
+    let called = named .before .before in
+    let start = called .before .before .before .before in
+    rw (of-refused (start .args .job .now) (start .args .picture .now)
+    (sym (called .read .ensures) ∙ named .number .given .1)) (put .put-refusal .ensures)
 
 pub run-spec : {M : Type 1} → statement M
 run-spec =
     tie.close
     (tie.spec
-    slice-aggregate-compose
-    compose-requires
-    returns
-    array-share-prefix-made
-    slice-aggregate-copy
-    copy-requires
+    read-requires
+    enum-known-record
+    run-record-requires
+    enum-known-number
+    put-refusal-requires
     same-length
+    returns
+    same-length-2
     returns-2)

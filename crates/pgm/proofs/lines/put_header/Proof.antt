@@ -5,9 +5,9 @@ use mathlib.Core.Path.{refl}
 use Prim.Native.Nat.{ℕ}
 use native.Mathlib.Omega.{arith}
 use lib.ListN.{length, length-append}
+use Rattle.image.specs.Call.{Appended}
+use Rattle.image.proofs.Appending.{appended-then, appended-front, appended-room}
 use Rattle.pgm.specs.Write.{magicLine, numberLine}
-use Rattle.pgm.specs.Places.{Appended}
-use Rattle.pgm.proofs.Appending.{appended-then, appended-front, appended-room}
 use Rattle.pgm.proofs.Digits.{length-line, length-header}
 use Rattle.pgm.proofs.lines.put_header.Statement.{statement}
 use Rattle.pgm.proofs.lines.put_header.Tie as tie

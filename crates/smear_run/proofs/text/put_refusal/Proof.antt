@@ -10,21 +10,20 @@ add-low c = search needs
 array-write-text : tie.Need-array-write-text
 array-write-text c = search needs
 
-slice-aggregate-copy : tie.Need-slice-aggregate-copy
-slice-aggregate-copy c = search needs
+slice-aggregate-put-text : tie.Need-slice-aggregate-put-text
+slice-aggregate-put-text c = search needs
 
-copy-requires : tie.Need-copy-requires
-copy-requires c κs = search needs
+put-text-requires : tie.Need-put-text-requires
+put-text-requires c κs = search needs
 
 same-length : tie.Need-same-length
 same-length c = search needs
 
 returns : tie.Need-returns
 returns c =
-    let at-if1 = c .before .before .before .before .before .before .before in
-    let start = at-if1 .before .before in
-    let k = c .before .before .copy in one-digit _ (start .args .made .now) (at-if1 .if1 .taken)
-    (k .ensures .0) (k .ensures .1)
+    let put = c .before .before in
+    let at-if1 = put .before .before .before .before .before in
+    rw (one-digit _ (at-if1 .if1 .taken)) (put .put-text .ensures)
 
 add-text : tie.Need-add-text
 add-text c = search needs
@@ -35,21 +34,20 @@ array-write-text-2 c = search needs
 array-write-text-3 : tie.Need-array-write-text-3
 array-write-text-3 c = search needs
 
-slice-aggregate-copy-2 : tie.Need-slice-aggregate-copy-2
-slice-aggregate-copy-2 c = search needs
+slice-aggregate-put-text-2 : tie.Need-slice-aggregate-put-text-2
+slice-aggregate-put-text-2 c = search needs
 
-copy-requires-2 : tie.Need-copy-requires-2
-copy-requires-2 c κs = search needs
+put-text-requires-2 : tie.Need-put-text-requires-2
+put-text-requires-2 c κs = search needs
 
 same-length-2 : tie.Need-same-length-2
 same-length-2 c = search needs
 
 returns-2 : tie.Need-returns-2
 returns-2 c =
-    let at-if1 = c .before .before .before .before .before .before .before in
-    let start = at-if1 .before .before in
-    let k = c .before .before .copy2 in two-digits _ (start .args .made .now) (at-if1 .if1 .left)
-    (k .ensures .0) (k .ensures .1)
+    let put = c .before .before in
+    let at-if1 = put .before .before .before .before .before in
+    rw (two-digits _ (at-if1 .if1 .left)) (put .put-text2 .ensures)
 
 pub put-refusal-spec : {M : Type 1} → statement M
 put-refusal-spec =
@@ -57,14 +55,14 @@ put-refusal-spec =
     (tie.spec
     add-low
     array-write-text
-    slice-aggregate-copy
-    copy-requires
+    slice-aggregate-put-text
+    put-text-requires
     same-length
     returns
     add-text
     array-write-text-2
     array-write-text-3
-    slice-aggregate-copy-2
-    copy-requires-2
+    slice-aggregate-put-text-2
+    put-text-requires-2
     same-length-2
     returns-2)

@@ -10,7 +10,7 @@
 enum { MOST = 400, FINE = 4, SAMPLES = MOST * FINE, MODULES = 21, REACH = 6 * FINE, TAPS = FINE + 2 * REACH };
 
 static uint8_t src[MOST * MOST], dst[MOST * MOST], file[17 + MOST * MOST];
-static int32_t scratch[3 * MOST * MOST];
+static int32_t scratch[3 * MOST];
 static smear_swing swings[MOST * MOST];
 static float label[SAMPLES * SAMPLES], moved[SAMPLES * SAMPLES], narrowed[SAMPLES * MOST];
 
@@ -154,10 +154,10 @@ static int restore(void) {
     size_t side = read_pgm(in), area = side * side;
     if (length == 0)
         refusal = smear_restore(src, area, side, side, side, dst, area, side, side, side, 8, 24, iterations, relaxation,
-                                0, 0, scratch, 3 * area, swings, area, &direction, &length, &estimate);
+                                0, 0, scratch, 3 * side, swings, area, &direction, &length, &estimate);
     else
         refusal = smear_van_cittert_line(src, area, side, side, side, dst, area, side, side, side, angle, length,
-                                         iterations, relaxation, 0, 0, scratch, 3 * area, &direction);
+                                         iterations, relaxation, 0, 0, scratch, 3 * side, &direction);
     if (refusal == 0)
         write_pgm(out, dst, side);
     printf("%d %d %zu %.17g\n", refusal, direction, length, estimate);

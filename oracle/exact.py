@@ -102,9 +102,9 @@ def main():
         iterations = rng.randint(1, 6)
         relaxation = rng.choice([1.0, 1.0, 0.5, 0.1, rng.random(), 65535 / 65536])
         border, value = accepted % 4, rng.randrange(256)
-        size = w * h
+        size, lent = w * h, 3 * max(w, h)
         dst = (ctypes.c_uint8 * size)()
-        scratch = (ctypes.c_int32 * (3 * size))()
+        scratch = (ctypes.c_int32 * lent)()
         swings = (Swing * size)()
         direction, blur_length, estimate = ctypes.c_uint8(9), ctypes.c_size_t(0), ctypes.c_double(0)
         z, d = ctypes.c_size_t, ctypes.c_double
@@ -112,7 +112,7 @@ def main():
             picture, z(size), z(w), z(h), z(w), dst, z(size), z(w), z(h), z(w),
             z(1 + rng.randrange(4)), ctypes.c_uint8(24),
             z(iterations), d(relaxation), ctypes.c_uint8(border), ctypes.c_uint8(value),
-            scratch, z(3 * size), swings, z(size),
+            scratch, z(lent), swings, z(size),
             ctypes.byref(direction), ctypes.byref(blur_length), ctypes.byref(estimate))
         if code:
             refused[code] = refused.get(code, 0) + 1
@@ -129,7 +129,7 @@ def main():
                 picture, z(size), z(w), z(h), z(w), estimates, z(size),
                 d(ANGLES[direction.value]), z(length), z(k), d(relaxation),
                 ctypes.c_uint8(border), ctypes.c_uint8(value),
-                scratch, z(3 * size), ctypes.byref(used))
+                scratch, z(lent), ctypes.byref(used))
             assert code == 0 and used.value == direction.value
             bound = 2**k - 1 if q == 65536 else 2 ** (k + 1) - 2
             for (x, y), v in exact[k - 1].items():

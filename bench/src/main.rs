@@ -204,7 +204,7 @@ fn lengths(only: &str, pictures: &[(&str, Vec<u8>); 2]) {
 /// Restoration and line unsharp, in each direction and border.
 fn restorations(only: &str, data: &[u8], dst: &mut [u8], other: &mut [u8]) {
     let view = Gray8View::new(data, SIDE, SIDE, SIDE).unwrap();
-    let mut scratch = vec![0i32; 3 * PIXELS];
+    let mut scratch = vec![0i32; 3 * SIDE];
     let mut workspace = Default::default();
     let mut used = 0;
     for (number, (border_name, border)) in BORDERS.into_iter().enumerate() {
@@ -254,7 +254,7 @@ fn restorations(only: &str, data: &[u8], dst: &mut [u8], other: &mut [u8]) {
 /// Without the pauses, which the thread's time does not count, either of the two can be a quarter slower at the ends of
 /// lines through all rounds, now the one and now the other.
 fn wraps(only: &str, data: &[u8], dst: &mut [u8]) {
-    let mut scratch = vec![0i32; 3 * PIXELS];
+    let mut scratch = vec![0i32; 3 * SIDE];
     let (dst, scratch) = (dst.as_mut_ptr(), scratch.as_mut_ptr());
     let longest = (2 * SIDE + 1, 3, 1.0);
     let whole = SETTINGS.into_iter().chain([longest]).map(|settings| (SIDE, SIDE, settings));
@@ -270,7 +270,7 @@ fn wraps(only: &str, data: &[u8], dst: &mut [u8]) {
                         smear_van_cittert_line(
                             data.as_ptr().add(first), PIXELS - first, width, height, SIDE,
                             dst.add(first), PIXELS - first, width, height, SIDE,
-                            angle, length, iterations, relaxation, border, 0, scratch, 3 * PIXELS, &mut used,
+                            angle, length, iterations, relaxation, border, 0, scratch, 3 * SIDE, &mut used,
                         );
                     }
                 }
@@ -284,7 +284,7 @@ fn wraps(only: &str, data: &[u8], dst: &mut [u8]) {
 /// The whole job, against the Rust's three calls in a row.
 fn whole_jobs(only: &str, data: &[u8], dst: &mut [u8], other: &mut [u8]) {
     let view = Gray8View::new(data, SIDE, SIDE, SIDE).unwrap();
-    let mut scratch = vec![0i32; 3 * PIXELS];
+    let mut scratch = vec![0i32; 3 * SIDE];
     let mut swings = vec![Swing { width: 0.0, swing: 0 }; PIXELS];
     let mut workspace = Default::default();
     for iterations in [3, 10] {

@@ -1,10 +1,10 @@
 #include <stdio.h>
 #include "smear.h"
 
-enum { W = 60, H = 60 };
+enum { W = 60, H = 60, SCRATCH = 3 * (W > H ? W : H) };
 
 static uint8_t src[W * H], dst[W * H];
-static int32_t scratch[3 * W * H];
+static int32_t scratch[SCRATCH];
 static smear_swing swings[W * H];
 
 int main(void) {
@@ -19,7 +19,7 @@ int main(void) {
     size_t length;
     double estimate;
     uint8_t refusal = smear_restore(src, W * H, W, H, W, dst, W * H, W, H, W, 8, 24, 3, 1.0, 0, 0,
-                                    scratch, 3 * W * H, swings, W * H, &direction, &length, &estimate);
+                                    scratch, SCRATCH, swings, W * H, &direction, &length, &estimate);
     if (refusal != 0)
         printf("refused %d\n", refusal);
     else

@@ -3,6 +3,7 @@
 use crate::blur::RasterDirection4;
 use crate::error::{answer, ImgProcResult};
 use crate::ffi::{self, Filter};
+use crate::room::room;
 use crate::view::{Gray8View, Gray8ViewMut};
 
 /// What stands beyond the ends of a line.
@@ -114,10 +115,9 @@ pub struct DeblurWorkspace {
 }
 
 impl DeblurWorkspace {
-    /// Room for a picture.
+    /// Room for the longest line of a picture.
     pub(crate) fn scratch(&mut self, src: Gray8View<'_>) -> &mut [i32] {
-        self.scratch.resize(3 * src.width() * src.height(), 0);
-        &mut self.scratch
+        room(&mut self.scratch, 3 * src.width().max(src.height()))
     }
 }
 

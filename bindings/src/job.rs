@@ -5,6 +5,7 @@ use crate::deblur::{DeblurWorkspace, LineBorderMode};
 use crate::error::{answer, ImgProcResult};
 use crate::ffi::{self, Filter};
 use crate::raw::Swing;
+use crate::room::room;
 use crate::view::{Gray8View, Gray8ViewMut};
 
 /// Settings of the whole job.
@@ -59,7 +60,7 @@ pub fn restore(
     config: &JobConfig,
     workspace: &mut JobWorkspace,
 ) -> ImgProcResult<JobResult> {
-    workspace.swings.resize(src.width() * src.height(), Swing::default());
+    let swings = room(&mut workspace.swings, src.width() * src.height());
     let thresholds = (config.minimum_transitions, config.minimum_amplitude);
     let filter = Filter {
         angle: 0.0,
@@ -69,7 +70,7 @@ pub fn restore(
         border: config.border.number(),
     };
     let (refusal, (direction, blur_length, estimate)) =
-        ffi::restore(src, dst, thresholds, filter, workspace.deblur.scratch(src), &mut workspace.swings);
+        ffi::restore(src, dst, thresholds, filter, workspace.deblur.scratch(src), swings);
     answer(refusal)?;
     Ok(JobResult { direction: RasterDirection4::from_number(direction), blur_length, estimate })
 }

@@ -26,6 +26,7 @@ pub mod job;
 pub mod pgm;
 #[allow(dead_code)] // all that the header declares
 mod raw;
+mod room;
 pub mod sharpen;
 pub mod summary;
 mod view;

@@ -2,6 +2,7 @@
 
 use crate::error::{answer, ImgProcResult};
 use crate::ffi;
+use crate::room::room;
 use crate::view::{Gray8View, Gray8ViewMut};
 
 /// Room that the binomial unsharp works in, kept from call to call.
@@ -16,6 +17,6 @@ pub fn fixed_binomial_unsharp_into(
     dst: Gray8ViewMut<'_>,
     workspace: &mut SharpenWorkspace,
 ) -> ImgProcResult<()> {
-    workspace.scratch.resize(src.width() * src.height(), 0);
-    answer(ffi::fixed_binomial_unsharp(src, dst, &mut workspace.scratch))
+    let scratch = room(&mut workspace.scratch, src.width() * src.height());
+    answer(ffi::fixed_binomial_unsharp(src, dst, scratch))
 }

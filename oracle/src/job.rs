@@ -5,6 +5,7 @@ use crate::angle::number;
 use crate::case::{Case, Tally, Verdict};
 use crate::direction::is_tie;
 use crate::ffi::{smear_restore, Swing};
+use crate::lent::{line_scratch, Lent};
 use crate::line::filtered;
 use crate::picture::{size, Picture};
 use crate::random::Random;
@@ -29,7 +30,9 @@ struct Job {
 type Answer = Result<(u8, usize, f64, Vec<u8>), u8>;
 
 const OLD: i32 = 0x5A5A_5A5A;
+const GUARD: i32 = 0x7E7E_7E7E;
 const OLD_SWING: Swing = Swing { width: 1e300, swing: 255 };
+const GUARD_SWING: Swing = Swing { width: -1e300, swing: 254 };
 
 /// The smallest odd whole number of at least 3 and at least the estimate.
 fn odd(estimate: f64) -> usize {
@@ -86,7 +89,7 @@ impl Job {
         if self.iterations > 22 {
             return Err(9);
         }
-        if self.scratch < 3 * pixels || self.swings < pixels {
+        if self.scratch < line_scratch(s.width, s.height) || self.swings < pixels {
             return Err(10);
         }
         let thresholds = LineLengthConfig {
@@ -112,8 +115,8 @@ impl Case for Job {
         }
         let (s, d) = (&self.source, &self.destination);
         let mut bytes = d.data.clone();
-        let mut scratch = vec![OLD; self.scratch];
-        let mut swings = vec![OLD_SWING; self.swings];
+        let mut lent = (Lent::new(self.scratch, OLD, GUARD), Lent::new(self.swings, OLD_SWING, GUARD_SWING));
+        let ((scratch, scratch_len), (swings, swings_len)) = (lent.0.part(), lent.1.part());
         let (mut direction, mut blur_length, mut estimate) = (77, 77, -1.0);
         let code = unsafe {
             smear_restore(
@@ -121,16 +124,17 @@ impl Case for Job {
                 bytes.as_mut_ptr(), bytes.len(), d.width, d.height, d.stride,
                 self.minimum_transitions, self.minimum_amplitude,
                 self.iterations, self.relaxation, self.border, self.border_value,
-                scratch.as_mut_ptr(), scratch.len(), swings.as_mut_ptr(), swings.len(),
+                scratch, scratch_len, swings, swings_len,
                 &mut direction, &mut blur_length, &mut estimate,
             )
         };
+        if !lent.0.is_guarded() || !lent.1.is_guarded() {
+            return Verdict::Differs("an element beside the scratch was written".into());
+        }
         match self.expected() {
             Err(refused) if code == refused => {
-                let lent = code == 11
-                    || code == 12
-                    || scratch.iter().all(|&v| v == OLD) && swings.iter().all(|&s| s == OLD_SWING);
-                if lent && bytes == d.data && (direction, blur_length, estimate) == (77, 77, -1.0) {
+                let kept = code == 11 || code == 12 || lent.0.is_kept() && lent.1.is_kept();
+                if kept && bytes == d.data && (direction, blur_length, estimate) == (77, 77, -1.0) {
                     return Verdict::Refused;
                 }
                 Verdict::Differs("a refusal changed something".into())
@@ -149,7 +153,8 @@ impl Case for Job {
         for source in self.source.smaller() {
             let pixels = source.width * source.height;
             let destination = Picture { data: vec![0; pixels], stride: source.width, ..source };
-            out.push(Self { source, destination, scratch: 3 * pixels, swings: pixels, ..self.clone() });
+            let scratch = line_scratch(source.width, source.height);
+            out.push(Self { source, destination, scratch, swings: pixels, ..self.clone() });
         }
         out
     }
@@ -166,19 +171,21 @@ fn case(random: &mut Random, width: usize, height: usize) -> Job {
         relaxation: [1.0, 1.0, 0.5, 0.1, -0.0, random.unit()][random.below(6) as usize],
         border: border_number(random),
         border_value: random.below(256) as u8,
-        scratch: 3 * pixels + random.below(3) as usize,
-        swings: pixels + random.below(3) as usize,
+        scratch: line_scratch(width, height),
+        swings: pixels,
     };
     match random.below(40) {
         0 => out.source = out.source.damaged(random),
         1 => out.destination = out.destination.damaged(random),
         2 => out.destination = Picture::random(random, width + 1, height),
-        3 => out.scratch = 3 * pixels - 1,
-        4 => out.swings = pixels - 1,
+        3 => out.scratch -= 1,
+        4 => out.swings -= 1,
         5 => out.iterations = [0, 22, 23, usize::MAX][random.below(4) as usize],
         6 => out.relaxation = [f64::NAN, f64::INFINITY, 1.5, -0.5][random.below(4) as usize],
         7 => out.minimum_transitions = 0,
         8 => out.minimum_amplitude = 0,
+        9 => out.scratch += random.below(3 * pixels as u64) as usize,
+        10 => out.swings += 1 + random.below(2) as usize,
         _ => {}
     }
     out
@@ -193,5 +200,9 @@ pub fn compare(random: &mut Random, count: usize, tally: &mut Tally) {
     for border in 0..4 {
         let large = Job { relaxation: 1.0, border, ..case(random, 1024, 1024) };
         tally.check(Job { minimum_transitions: 8, minimum_amplitude: 24, iterations: 3, ..large });
+    }
+    // the longest lines of low and narrow ones
+    for (width, height) in [(1024, 3), (3, 1024), (1024, 40), (40, 1024)] {
+        tally.check(Job { minimum_transitions: 1, minimum_amplitude: 1, ..case(random, width, height) });
     }
 }

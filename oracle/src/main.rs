@@ -13,6 +13,7 @@ mod direction;
 mod ffi;
 mod job;
 mod length;
+mod lent;
 mod line;
 mod pgm;
 mod picture;

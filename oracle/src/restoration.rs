@@ -6,6 +6,7 @@ pub mod rotated;
 use crate::angle::number;
 use crate::case::{Case, Tally, Verdict};
 use crate::ffi::{smear_directional_unsharp_line, smear_van_cittert_estimate, smear_van_cittert_line};
+use crate::lent::{line_scratch, Lent};
 use crate::line::{estimate, filtered};
 use crate::picture::{size, Picture};
 use crate::random::Random;
@@ -36,6 +37,7 @@ pub struct Filter {
 }
 
 const OLD: i32 = 0x5A5A_5A5A;
+const GUARD: i32 = 0x7E7E_7E7E;
 
 impl Filter {
     fn settings(&self) -> Settings {
@@ -48,7 +50,7 @@ impl Filter {
         }
     }
 
-    /// Document 01's refusals, first match wins.
+    /// Document 01's refusals, first match wins, with document 02's scratch.
     fn refusal(&self) -> u8 {
         let (s, d) = (&self.source, &self.destination);
         if s.refusal() != 0 {
@@ -75,43 +77,48 @@ impl Filter {
             return 9;
         }
         let pixels = s.width * s.height;
-        if self.scratch < 3 * pixels || self.call == Call::Estimate && self.estimates < pixels {
+        if self.scratch < line_scratch(s.width, s.height) || self.call == Call::Estimate && self.estimates < pixels {
             return 10;
         }
         0
     }
 
-    fn ours(&self, bytes: &mut [u8], estimates: &mut [i32], scratch: &mut [i32], direction: &mut u8) -> u8 {
+    fn ours(&self, bytes: &mut [u8], estimates: &mut [i32], scratch: &mut Lent<i32>, direction: &mut u8) -> u8 {
         let (s, d) = (&self.source, &self.destination);
+        let (scratch, scratch_len) = scratch.part();
         unsafe {
             match self.call {
                 Call::Restore => smear_van_cittert_line(
                     s.data.as_ptr(), s.data.len(), s.width, s.height, s.stride,
                     bytes.as_mut_ptr(), bytes.len(), d.width, d.height, d.stride,
                     self.angle, self.length, self.iterations, self.factor, self.border, self.border_value,
-                    scratch.as_mut_ptr(), scratch.len(), direction,
+                    scratch, scratch_len, direction,
                 ),
                 Call::Estimate => smear_van_cittert_estimate(
                     s.data.as_ptr(), s.data.len(), s.width, s.height, s.stride,
                     estimates.as_mut_ptr(), estimates.len(),
                     self.angle, self.length, self.iterations, self.factor, self.border, self.border_value,
-                    scratch.as_mut_ptr(), scratch.len(), direction,
+                    scratch, scratch_len, direction,
                 ),
                 Call::Unsharp => smear_directional_unsharp_line(
                     s.data.as_ptr(), s.data.len(), s.width, s.height, s.stride,
                     bytes.as_mut_ptr(), bytes.len(), d.width, d.height, d.stride,
                     self.angle, self.length, self.factor, self.border, self.border_value,
-                    scratch.as_mut_ptr(), scratch.len(), direction,
+                    scratch, scratch_len, direction,
                 ),
             }
         }
+    }
+
+    fn scratch(&self) -> Lent<i32> {
+        Lent::new(self.scratch, OLD, GUARD)
     }
 
     /// What our call writes into the picture, row by row; or its refusal.
     fn written(&self) -> Result<Vec<i32>, u8> {
         let mut destination = self.destination.clone();
         let mut estimates = vec![OLD; self.estimates];
-        match self.ours(&mut destination.data, &mut estimates, &mut vec![OLD; self.scratch], &mut 77) {
+        match self.ours(&mut destination.data, &mut estimates, &mut self.scratch(), &mut 77) {
             0 if self.call == Call::Estimate => Ok(estimates[..self.source.width * self.source.height].to_vec()),
             0 => Ok(destination.pixels().into_iter().map(i32::from).collect()),
             refused => Err(refused),
@@ -123,15 +130,19 @@ impl Case for Filter {
     fn check(&self) -> Verdict {
         let mut bytes = self.destination.data.clone();
         let mut estimates = vec![OLD; self.estimates];
-        let mut scratch = vec![OLD; self.scratch];
+        let mut scratch = self.scratch();
         let mut direction = 77;
         let code = self.ours(&mut bytes, &mut estimates, &mut scratch, &mut direction);
+        if !scratch.is_guarded() {
+            return Verdict::Differs("an element beside the scratch was written".into());
+        }
         if code != self.refusal() {
             return Verdict::Differs(format!("refusal {code}, not {}", self.refusal()));
         }
         if code != 0 {
             let kept = bytes == self.destination.data
-                && estimates.iter().chain(&scratch).all(|&v| v == OLD)
+                && estimates.iter().all(|&v| v == OLD)
+                && scratch.is_kept()
                 && direction == 77;
             return if kept { Verdict::Refused } else { Verdict::Differs("a refusal changed something".into()) };
         }
@@ -168,7 +179,8 @@ impl Case for Filter {
         for source in self.source.smaller() {
             let pixels = source.width * source.height;
             let destination = Picture { data: vec![0; pixels], stride: source.width, ..source };
-            out.push(Self { source, destination, estimates: pixels, scratch: 3 * pixels, ..self.clone() });
+            let scratch = line_scratch(source.width, source.height);
+            out.push(Self { source, destination, estimates: pixels, scratch, ..self.clone() });
         }
         out
     }
@@ -199,7 +211,7 @@ fn angle(random: &mut Random) -> f64 {
     }
 }
 
-/// A call with any settings, in pictures and room as they must be.
+/// A call with any settings, in pictures and room as they must be: scratch is just enough.
 fn plain(random: &mut Random, call: Call, width: usize, height: usize) -> Filter {
     let pixels = width * height;
     let reach = 2 * width.max(height) + 1;
@@ -226,7 +238,7 @@ fn plain(random: &mut Random, call: Call, width: usize, height: usize) -> Filter
         factor: factor(random, if call == Call::Unsharp { 8.0 } else { 1.0 }),
         border: border_number(random),
         border_value: random.below(256) as u8,
-        scratch: 3 * pixels + random.below(3) as usize,
+        scratch: line_scratch(width, height),
     }
 }
 
@@ -238,8 +250,9 @@ fn case(random: &mut Random, call: Call, width: usize, height: usize) -> Filter 
         0 => out.source = out.source.damaged(random),
         1 => out.destination = out.destination.damaged(random),
         2 => out.destination = Picture::random(random, width + 1, height),
-        3 => out.scratch = 3 * pixels - 1,
+        3 => out.scratch -= 1,
         4 => out.estimates = pixels - 1,
+        5 => out.scratch += random.below(3 * pixels as u64) as usize,
         _ => {}
     }
     out
@@ -255,6 +268,12 @@ pub fn compare(random: &mut Random, count: usize, tally: &mut Tally, call: Call)
         for border in [random.below(3) as u8, 3] {
             let large = plain(random, call, 1024, 1024);
             tally.check(Filter { angle, length: 31, iterations: 22, factor: 1.0, border, ..large });
+        }
+    }
+    // the longest lines of low and narrow ones
+    for (width, height) in [(1024, 1), (1, 1024), (1024, 7), (7, 1024)] {
+        for angle in [0.0, 0.75, 1.5, 2.25] {
+            tally.check(Filter { angle, ..plain(random, call, width, height) });
         }
     }
 }

@@ -13,9 +13,10 @@ use lib.ListN.{length}
 use Rattle.floats.specs.Factor.{maxRelaxation, maxGain, within}
 use Rattle.image.specs.Call.{Gray8, numberOf}
 use Rattle.image.specs.Conditions.{Refusal, FirstMatch, Exactly}
-use Rattle.image.proofs.Conditions.{Numbered, match-none, match-test, match-then, decided-exactly}
+use Rattle.image.proofs.Conditions.{Numbered, match-none, match-test, not-given, match-then, decided-exactly}
 use Rattle.image.proofs.Conditions.{layout-matches, layout-numbered, pair-matches, pair-numbered}
 use Rattle.image.proofs.Pair.{accepted-pair}
+use Rattle.image.specs.Refusal.{pairRefusal}
 use Rattle.line.specs.Kernel.{maxIterations, maxBlurLength}
 use Rattle.numbers.proofs.Test.{eqb-iff, ltb-iff, or-iff}
 use Rattle.deblur.specs.declared.VanCittertConfig.{VanCittertConfig}
@@ -40,6 +41,7 @@ use Rattle.deblur.specs.Refusal.{
   iteratedRefusal,
   restorationRefusal,
   unsharpRefusal,
+  inOrder,
   filterRefusal,
   estimateRefusal,
   RestorationTaken,
@@ -49,7 +51,7 @@ use Rattle.deblur.specs.Refusal.{
 }
 use Rattle.deblur.specs.Settings.{LineFilter, restorationOf, unsharpOf}
 use Rattle.deblur.proofs.Refusals.{first-0, line-0, factor-0, iterated-0, restoration-taken, unsharp-taken}
-use Rattle.deblur.proofs.Refusals.{order-0, filter-accepted, estimate-accepted, accepted-estimate}
+use Rattle.deblur.proofs.Refusals.{order-0, order-ten, filter-accepted, estimate-accepted, accepted-estimate}
 
 -- ---- the settings
 
@@ -112,6 +114,13 @@ module _ (width height : ℕ) where
     λ t. first-0 (line-0 width height (config .«theta_radians») (t .length-taken) (t .angle-finite))
         (factor-0 maxGain (config .gain) (t .gain-taken)),
   )
+
+  -- no settings give 10
+  pub restoration-other : (config : VanCittertConfig) → restorationRefusal width height config ≡ 10 → ⊥
+  restoration-other config = not-given (restoration-matches config) 10 (tt, (tt, (tt, (tt, (tt, tt)))))
+
+  pub unsharp-other : (config : DirectionalUnsharpConfig) → unsharpRefusal width height config ≡ 10 → ⊥
+  unsharp-other config = not-given (unsharp-matches config) 10 (tt, (tt, (tt, tt)))
 
 -- ---- the calls
 
@@ -181,6 +190,16 @@ module _ (src : Gray8) where
       estimates-exactly src (restorationOf config) (restorationConditions (src .width) (src .height) config)
       (restoration-matches (src .width) (src .height) config)
       (restoration-numbered (src .width) (src .height) config) scratchLen dstLen
+
+-- 10 of a call on two pictures is for what is lent alone
+pub pair-ten : (len width height stride dstLen dstWidth dstHeight dstStride settings : ℕ) (short : Bool)
+    → (settings ≡ 10 → ⊥)
+    → inOrder (pairRefusal len width height stride dstLen dstWidth dstHeight dstStride) settings short ≡ 10
+    → (pairRefusal len width height stride dstLen dstWidth dstHeight dstStride ≡ 0) × (short ≡ true)
+pair-ten len width height stride dstLen dstWidth dstHeight dstStride settings short =
+    order-ten (pairRefusal len width height stride dstLen dstWidth dstHeight dstStride) settings short
+    (not-given (pair-matches len width height stride dstLen dstWidth dstHeight dstStride) 10
+    (tt, (tt, (tt, (tt, (tt, (tt, tt)))))))
 
 module _ (len width height stride dstLen settings scratchLen : ℕ) where
   pub filter-iff : (dstWidth dstHeight dstStride : ℕ)

@@ -4,9 +4,11 @@ use mathlib.Core.List.{List, [], _∷_, map}
 use Prim.Native.Nat.{ℕ}
 use lib.IntN.{ℤ, pos, negsuc}
 use lib.Ieee.{binary64, ofBits}
+use lib.ListN.{replicate}
 use Rattle.numbers.specs.Scalar.{clampByte}
 use Rattle.numbers.specs.Sum.{total}
 use Rattle.floats.specs.Factor.{within}
+use Rattle.image.specs.Call.{Gray8, gray8}
 use Rattle.image.specs.Refusal.{layoutRefusal, pairRefusal}
 use Rattle.image.specs.Picture.{pixel}
 use Rattle.raster.specs.Border.{borderMap}
@@ -17,9 +19,12 @@ use Rattle.line.specs.Iteration.{mean, stepped, after}
 use Rattle.line.specs.Line.{sample, window}
 use Rattle.deblur.specs.declared.DirectionalUnsharpConfig.{DirectionalUnsharpConfig}
 use Rattle.deblur.specs.declared.VanCittertConfig.{VanCittertConfig}
+use Rattle.deblur.specs.Before.{filterNumberBefore}
+use Rattle.deblur.specs.Calls.{filterNumber}
 use Rattle.deblur.specs.Picture.{estimate, estimateOn}
 use Rattle.deblur.specs.Refusal.{blurLengthRefusal, angleRefusal, factorRefusal, iterationsRefusal}
 use Rattle.deblur.specs.Refusal.{restorationRefusal, unsharpRefusal, filterRefusal, estimateRefusal}
+use Rattle.deblur.specs.Settings.{vanCittertDefault, restorationOf}
 
 -- ---- "Restoration and line unsharp": row 10 10 40 10 10, L = 3, Replicate, Horizontal
 
@@ -146,6 +151,22 @@ estimate-limits = refl
 destination-limits : map (λ (len : ℕ). estimateRefusal 5 5 1 5 len 0 15) (4 ∷ 5 ∷ []) ≡ 10 ∷ 0 ∷ []
 unfolding estimateRefusal layoutRefusal
 destination-limits = refl
+
+-- on 5 by 3, before document 02's K5 and now
+black : Gray8
+black = gray8 (replicate 15 0) 5 3 5
+
+scratch-before : map (filterNumberBefore black black (restorationOf vanCittertDefault)) (14 ∷ 15 ∷ 44 ∷ 45 ∷ [])
+    ≡ 10 ∷ 10 ∷ 10 ∷ 0 ∷ []
+unfolding black vanCittertDefault pairRefusal layoutRefusal blurLengthRefusal angleRefusal factorRefusal
+    iterationsRefusal within ofBits
+scratch-before = refl
+
+scratch-now : map (filterNumber black black (restorationOf vanCittertDefault)) (14 ∷ 15 ∷ 44 ∷ 45 ∷ [])
+    ≡ 10 ∷ 0 ∷ 0 ∷ 0 ∷ []
+unfolding black vanCittertDefault filterRefusal pairRefusal layoutRefusal blurLengthRefusal angleRefusal factorRefusal
+    iterationsRefusal within ofBits
+scratch-now = refl
 
 -- 7 comes before 8; 7, 8 and 9 before 10; 4 before all of them
 in-order : map (λ (settings : ℕ). filterRefusal 5 5 1 5 5 5 1 5 settings 14) (plain 2 0 ∷ plain 3 0 ∷ plain 3 23 ∷ [])

@@ -1,5 +1,6 @@
 -- The laws of `deblur`, by subject.
 pub mod Along
+pub mod Before
 pub mod Calls
 pub mod Conditions
 pub mod Determined

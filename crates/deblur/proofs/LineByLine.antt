@@ -9,7 +9,6 @@ use native.Mathlib.Omega.{arith}
 use lib.IntN.{ℤ}
 use lib.ListN.{length}
 use Rattle.numbers.specs.Written.{Written, Painted}
-use Rattle.numbers.proofs.Nat.{le-mul-of-pos-left}
 use Rattle.numbers.proofs.Written.{written-none, written-same}
 use Rattle.image.specs.Refusal.{Laid}
 use Rattle.image.specs.Picture.{pixel}
@@ -64,8 +63,6 @@ module _ {len w h stride : ℕ} (l : Laid len w h stride) where
         let i = line-in d w h k (l .width-pos) (l .height-pos) below in
         let short = i .short in
         let some = i .some in
-        let wide : w ≤ w * h = rw (mul-comm w h) (le-mul-of-pos-left w (l .height-pos)) in
-        let high : h ≤ w * h = le-mul-of-pos-left h (l .width-pos) in
         let mw = l .width-most in
         let mh = l .height-most in
         record { some = some; short = omega arith; reached = reached (n - 1) (omega arith); room = omega arith }

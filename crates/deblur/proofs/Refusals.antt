@@ -1,10 +1,10 @@
 -- When a call along lines is given which number, and what it is to be accepted.
-use Prim.Native.Nat.{ℕ, _*_, _%_, _<_}
+use Prim.Native.Nat.{ℕ, zero, suc, _*_, _%_, _<_}
 use native.Mathlib.Nat.{pos-of-ne-zero, zero-lt-suc}
 use native.Mathlib.Omega.{arith}
 use mathlib.Core.Bool.{Bool, true, false, not, cond, _||_, or-true}
 use mathlib.Core.Logic.{_⊎_, inl, inr, ⊎-elim}
-use mathlib.Core.Path.{_≡_}
+use mathlib.Core.Path.{_≡_, refl}
 use lib.Dec.{eqb, ltb}
 use lib.Ieee.{Float}
 use lib.Ieee.Scale.{finite}
@@ -196,6 +196,14 @@ module _ (pictures settings : ℕ) (short : Bool) where
       let a = first-zero pictures _ e in
       let b = first-zero settings _ (a .1) in
       (a .0, b .0, cond-zero short 10 0 (zero-lt-suc 9) (b .1) .0)
+
+-- 10 is for what is lent alone
+pub order-ten : (pictures settings : ℕ) (short : Bool) → (pictures ≡ 10 → ⊥) → (settings ≡ 10 → ⊥)
+    → inOrder pictures settings short ≡ 10 → (pictures ≡ 0) × (short ≡ true)
+order-ten (suc pictures) settings short other-pictures other-settings e = absurd (other-pictures e)
+order-ten zero (suc settings) short other-pictures other-settings e = absurd (other-settings e)
+order-ten zero zero true other-pictures other-settings e = (refl, refl)
+order-ten zero zero false other-pictures other-settings e = absurd (omega (arith, e))
 
 -- ---- restoration and line unsharp
 

@@ -6,3 +6,4 @@ pub mod Settings
 pub mod Lines
 pub mod Scatter
 pub mod Calls
+pub mod Before

@@ -1,6 +1,6 @@
 -- Document 01, "Refusals, first match wins", for the line filters: a test for each number, which is 0 where nothing is
 -- refused, and the tests in the document's order.
-use Prim.Native.Nat.{ℕ, _*_, _%_, _≤_}
+use Prim.Native.Nat.{ℕ, _*_, _%_, _≤_, max}
 use mathlib.Core.Bool.{Bool, true, not, cond, _||_}
 use mathlib.Core.Path.{_≡_}
 use lib.Dec.{eqb, ltb}
@@ -12,9 +12,9 @@ use Rattle.line.specs.Kernel.{maxIterations, maxBlurLength}
 use Rattle.deblur.specs.declared.VanCittertConfig.{VanCittertConfig}
 use Rattle.deblur.specs.declared.DirectionalUnsharpConfig.{DirectionalUnsharpConfig}
 
--- how many i32 a line filter asks as scratch
+-- how many i32 a line filter asks as scratch (document 02, K5: "3 × max(width, height) i32 has to suffice")
 abbrev pub scratchNeeded : ℕ → ℕ → ℕ
-scratchNeeded width height = 3 * (width * height)
+scratchNeeded width height = 3 * max width height
 
 -- ---- the settings
 

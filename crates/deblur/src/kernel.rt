@@ -15,15 +15,16 @@ ghost use Rattle.deblur.specs.Settings.{lineKernel};
 use crate::lines::estimate_lines_into;
 use crate::lines::restore_lines_into;
 use line::kernel::LineKernel;
+use numbers::max_usize;
 use raster::border::LineBorderMode;
 use raster::direction::RasterDirection4;
 
-// How many i32 a line filter asks as scratch.
+// How many i32 a line filter asks as scratch: three parts of the longest line.
 pub fn scratch_needed(width: usize, height: usize) -> usize
     requires { ⌜ (width ≤ maxSide) × (height ≤ maxSide) ⌝ }
     ensures { λ r. ⌜ r ≡ scratchNeeded width height ⌝ }
 {
-    3 * (width * height)
+    3 * max_usize(width, height)
 }
 
 // The kernel of a factor that is taken.

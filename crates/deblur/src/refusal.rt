@@ -139,8 +139,8 @@ pub fn filter_refusal(
     if pictures != 0 {
         return pictures;
     }
-    let short = scratch_len < scratch_needed(width, height);
-    first_refusal(settings, lent_refusal(short))
+    let scratch_short = scratch_len < scratch_needed(width, height);
+    first_refusal(settings, lent_refusal(scratch_short))
 }
 
 // Refusals of the estimate call, by that of its settings.
@@ -159,7 +159,8 @@ pub fn estimate_refusal(
     if layout != 0 {
         return layout;
     }
-    let dst_short = dst_len < width * height;
-    let scratch_short = scratch_len < scratch_needed(width, height);
-    first_refusal(settings, lent_refusal(dst_short | scratch_short))
+    let pixels = width * height;
+    let needed = scratch_needed(width, height);
+    let short = (dst_len < pixels) | (scratch_len < needed);
+    first_refusal(settings, lent_refusal(short))
 }

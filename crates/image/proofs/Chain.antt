@@ -22,6 +22,11 @@ pub first-zero : (a b : ℕ) → firstRefusal a b ≡ 0 → (a ≡ 0) × (b ≡ 
 first-zero zero b e = (refl, e)
 first-zero (suc a) b e = absurd (omega (arith, e))
 
+-- the first of two decides what the next does not
+pub first-other : (a b : ℕ) {n : ℕ} → (b ≡ n → ⊥) → firstRefusal a b ≡ n → a ≡ n
+first-other zero b h e = absurd (h e)
+first-other (suc a) b h e = e
+
 pub first-own : (a b : ℕ) → (a ≡ 0 → ⊥) → firstRefusal a b ≡ a
 first-own zero b h = absurd (h refl)
 first-own (suc a) b h = refl

@@ -1,14 +1,15 @@
 -- A refusal is given in its condition and otherwise never: what a chain of tests gives is the first match of the list
--- of its conditions (`match-test`, `match-unless`, `match-then`), which no other number is (`exactly`); so is the
--- number of a call's decision (`decided-exactly`). The lists of 1 to 6 (`layout-matches`, `pair-matches`), and what is
--- accepted (`layout-iff`, `pair-iff`).
+-- of its conditions (`match-test`, `match-unless`, `match-then`), which no other number is (`exactly`), least of all
+-- one that no condition has (`not-given`); so is the number of a call's decision (`decided-exactly`). The lists of 1 to
+-- 6 (`layout-matches`, `pair-matches`), and what is accepted (`layout-iff`, `pair-iff`).
 use Prim.Native.Nat.{ℕ, zero, suc, _+_, _*_, _-_}
 use native.Mathlib.Omega.{arith}
-use mathlib.Core.Bool.{Bool, true, false, cond}
+use mathlib.Core.Bool.{Bool, true, false, not, cond}
 use mathlib.Core.List.{List, [], _∷_, _++_}
 use mathlib.Core.Logic.{inl, inr, _↔_, Iff·trans}
 use mathlib.Core.Path.{_≡_, refl, sym, subst, _∙_}
-use lib.Dec.{T, ltb}
+use lib.Dec.{T, eqb, ltb}
+use borrow.Author.Tests.{eq-eqb}
 use Rattle.numbers.proofs.Test.{false-not-true, eqb-iff, ltb-iff, or-iff, false-iff, and-false-iff}
 use Rattle.image.specs.Conditions.{
   Refusal,
@@ -63,6 +64,20 @@ Numbered (r ∷ rs) = T (ltb 0 (r .number)) × Numbered rs
 some : (n : ℕ) → T (ltb 0 n) → n ≡ 0 → ⊥
 some zero ok e = ok
 some (suc n) ok e = omega arith
+
+-- ---- a number that no condition has
+
+abbrev pub Without : ℕ → List Refusal → Type 0
+Without n [] = T (ltb 0 n)
+Without n (r ∷ rs) = T (not (eqb n (r .number))) × Without n rs
+
+pub not-given : {rs : List Refusal} {refusal : ℕ} → FirstMatch rs refusal → (n : ℕ) → Without n rs → refusal ≡ n → ⊥
+not-given {rs} m n other e = go rs other (subst (FirstMatch rs) e m .matches)
+  where
+    go : (rs : List Refusal) → Without n rs → Matches rs n → ⊥
+    go [] other e = some n other e
+    go (r ∷ rs) other (inl a) = let z : T (not (eqb n (r .number))) = other .0 in rw (eq-eqb n (r .number) (a .1)) at z
+    go (r ∷ rs) other (inr a) = go rs (other .1) (a .1)
 
 -- one list after the other
 then : (rs ss : List Refusal) (a b : ℕ) → Numbered rs → Matches rs a → Matches ss b

@@ -2,6 +2,7 @@
 -- it is not accepted before anything is measured (`job-iff`), and 0 exactly where its length is taken too (`plan-iff`).
 use Prim.Native.Nat.{ℕ, _*_}
 use native.Mathlib.Omega.{arith}
+use mathlib.Core.Bool.{true}
 use mathlib.Core.List.{[], _∷_}
 use mathlib.Core.Logic.{inl, inr, _↔_}
 use mathlib.Core.Path.{_≡_, refl, sym, ap₂, _∙_}
@@ -9,29 +10,39 @@ use borrow.Author.Tests.{le-ltb}
 use lib.Dec.{ltb}
 use lib.Ieee.{Float}
 use lib.ListN.{length}
-use Rattle.numbers.proofs.Test.{or-false-intro, ap-cond, ltb-iff, or-iff}
+use Rattle.numbers.proofs.Test.{or-false-intro, ap-cond, ltb-iff}
 use Rattle.floats.specs.Odd.{oddLength}
 use Rattle.floats.specs.declared.OddLength.{OddLength}
 use Rattle.floats.specs.declared.OddLength.the-variants.{Length, Beyond}
 use Rattle.image.specs.Call.{accepts, refuses, numberOf}
 use Rattle.image.specs.Conditions.{given, Matches, FirstMatch, Exactly}
-use Rattle.image.proofs.Conditions.{exactly, match-none, match-test, match-then, match-unless-decided}
-use Rattle.image.proofs.Conditions.{pair-matches, pair-numbered}
+use Rattle.image.proofs.Conditions.{exactly, match-none, match-test, not-given, match-unless-decided}
 use Rattle.image.proofs.Call.{number-unless}
-use Rattle.image.proofs.Chain.{first-zero}
+use Rattle.image.proofs.Chain.{first-zero, first-other}
 use Rattle.image.specs.Refusal.{firstRefusal}
 use Rattle.image.proofs.Pair.{accepted-pair}
 use Rattle.raster.specs.declared.direction.RasterDirection4.{RasterDirection4}
 use Rattle.line.specs.Kernel.{maxBlurLength}
 use Rattle.blur.specs.declared.length.LineLength.{LineLength}
 use Rattle.blur.specs.declared.length.LineLength.the-variants.{Found, Nothing}
-use Rattle.deblur.specs.Refusal.{scratchNeeded}
-use Rattle.deblur.proofs.Conditions.{iterated-matches}
+use Rattle.deblur.specs.Refusal.{scratchNeeded, iteratedRefusal}
+use Rattle.deblur.proofs.Conditions.{iterated-matches, pair-ten}
 use Rattle.deblur.proofs.Refusals.{order-0, iterated-0}
 use Rattle.job.specs.declared.JobResult.{JobResult}
 use Rattle.job.specs.Conditions.{Exceeds, measuredConditions, jobConditions, LengthFits, JobPlanned}
-use Rattle.job.specs.Job.{Job, jobRefusal, jobDirection, jobLength, planOdd, planLength, plan, JobAccepted}
-use Rattle.job.proofs.Plans.{job-accepted}
+use Rattle.job.specs.Job.{
+  Job,
+  lentShort,
+  picturesRefusal,
+  jobRefusal,
+  jobDirection,
+  jobLength,
+  planOdd,
+  planLength,
+  plan,
+  JobAccepted,
+}
+use Rattle.job.proofs.Plans.{early-matches, early-numbered, job-accepted}
 
 -- ---- 11 and 12
 
@@ -75,21 +86,27 @@ module _ (j : Job) where
   h = j .source .height
 
   pub job-exactly : Exactly (jobConditions j) (numberOf (plan j))
-  unfolding plan jobRefusal
+  unfolding plan
   job-exactly =
+      exactly
+      (match-unless-decided (early-matches j) (early-numbered j) (planLength w h (jobDirection j) (jobLength j))
+      (measured-matches w h (jobDirection j) (jobLength j)))
+
+  -- 10 is for what is lent alone
+  pub plan-ten : numberOf (plan j) ≡ 10
+      → (picturesRefusal (j .source) (j .destination) ≡ 0)
+      × (lentShort w h (j .scratch-len) (j .swings-len) ≡ true)
+  unfolding plan jobRefusal
+  plan-ten e =
       let src = j .source in
       let dst = j .destination in
-      let len = length (src .bytes) in
-      exactly
-      (match-unless-decided
-      (match-then
-      (pair-matches len w h (src .stride) (dst .len) (dst .width) (dst .height) (dst .stride))
-      (pair-numbered len w h (src .stride) (dst .len) (dst .width) (dst .height) (dst .stride))
-      (match-then (iterated-matches (j .config .relaxation) (j .config .iterations)) (tt, (tt, (tt, tt)))
-      (match-test 10 match-none
-      (or-iff _ _ (ltb-iff (j .scratch-len) (scratchNeeded w h)) (ltb-iff (j .swings-len) (w * h))))))
-      (tt, (tt, (tt, (tt, (tt, (tt, (tt, (tt, (tt, (tt, tt))))))))))
-      (planLength w h (jobDirection j) (jobLength j)) (measured-matches w h (jobDirection j) (jobLength j)))
+      let next = planLength w h (jobDirection j) (jobLength j) in
+      let late = not-given (measured-matches w h (jobDirection j) (jobLength j)) 10 (tt, (tt, tt)) in
+      pair-ten (length (src .bytes)) w h (src .stride) (dst .len) (dst .width) (dst .height) (dst .stride)
+      (iteratedRefusal (j .config .relaxation) (j .config .iterations))
+      (lentShort w h (j .scratch-len) (j .swings-len))
+      (not-given (iterated-matches (j .config .relaxation) (j .config .iterations)) 10 (tt, (tt, (tt, tt))))
+      (first-other (jobRefusal j) (numberOf next) late (sym (number-unless (jobRefusal j) next) ∙ e))
 
   accepted-job : JobAccepted j → jobRefusal j ≡ 0
   unfolding jobRefusal

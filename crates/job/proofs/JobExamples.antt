@@ -37,7 +37,7 @@ tight source width height =
             relaxation = ofBits binary64 0x3ff0_0000_0000_0000;
             border = Replicate;
           };
-      scratch-len = 90;
+      scratch-len = 30;
       swings-len = 30;
     }
 

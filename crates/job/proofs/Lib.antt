@@ -1,4 +1,5 @@
 -- The laws of `job`, by subject.
+pub mod Before
 pub mod Conditions
 pub mod Determined
 pub mod Examples

@@ -1,34 +1,28 @@
 -- What a plan says: the refusals in their conditions, and that an accepted job (`job-accepted`) with a result has a
 -- length that the restoration takes (`plan-length`) and an estimate that is positive and finite (`plan-estimate`).
-use mathlib.Core.Bool.{Bool, true, false, not, cond, _&&_, _||_}
+use mathlib.Core.Bool.{Bool, true, false, cond}
+use mathlib.Core.List.{List, _++_}
 use mathlib.Core.Logic.{_⊎_, inl, inr, ⊎-elim}
 use mathlib.Core.Path.{_≡_, refl, sym, ap, _∙_, subst}
-use Prim.Native.Nat.{ℕ, zero, suc, _+_, _-_, _*_, _%_, _^_, _≤_, _<_}
+use Prim.Native.Nat.{ℕ, _+_, _*_, _%_, _^_, _≤_, _<_}
 use native.Mathlib.Omega.{arith}
 use borrow.Author.Tests.{lt-ltb, le-ltb, ltb-false}
-use lib.Dec.{T, eqb, ltb, leb}
+use lib.Dec.{T, ltb, leb}
 use lib.Ieee.{Float, nan, inf, fin, binary64, up, down}
 use lib.Ieee.Fits.{down-pos}
 use lib.Ieee.Positive.{positive, above}
 use lib.ListN.{length}
-use Rattle.numbers.proofs.Test.{or-false-left, or-false-right}
-use Rattle.floats.specs.Factor.{maxRelaxation, within}
+use Rattle.numbers.proofs.Test.{or-false-left, or-false-right, ltb-iff, or-iff}
 use Rattle.floats.specs.Odd.{oddOf, oddLength}
 use Rattle.floats.specs.declared.OddLength.{OddLength}
 use Rattle.floats.specs.declared.OddLength.the-variants.{Length, Beyond}
 use Rattle.floats.proofs.Odd.{oddOf-odd, oddOf-three}
-use Rattle.image.specs.Call.{Decision, accepts, refuses, unless, KeepsScratch}
-use Rattle.image.specs.Refusal.{
-  maxSide,
-  pairRefusal,
-  layoutRefusal,
-  sidesRefusal,
-  rowsRefusal,
-  destinationRefusal,
-  sizesRefusal,
-  firstRefusal,
-}
+use Rattle.image.specs.Call.{Gray8, Decision, accepts, refuses, unless, KeepsScratch}
+use Rattle.image.specs.Conditions.{Refusal, FirstMatch, pairConditions}
+use Rattle.image.specs.Refusal.{firstRefusal}
 use Rattle.image.proofs.Call.{unless-refuses, unless-accepts}
+use Rattle.image.proofs.Conditions.{Numbered, match-none, match-test, not-given, match-then}
+use Rattle.image.proofs.Conditions.{pair-matches, pair-numbered}
 use Rattle.image.proofs.Pair.{laid-pair}
 use Rattle.raster.specs.declared.direction.RasterDirection4.{RasterDirection4}
 use Rattle.blur.specs.declared.length.LengthAnswer.{LengthAnswer}
@@ -37,21 +31,23 @@ use Rattle.blur.specs.declared.length.LineLength.{LineLength}
 use Rattle.blur.specs.declared.length.LineLength.the-variants.{Found, Nothing}
 use Rattle.blur.specs.Select.{Positive}
 use Rattle.blur.proofs.Above.{length-above}
-use Rattle.line.specs.Kernel.{maxIterations, maxBlurLength}
+use Rattle.line.specs.Kernel.{maxBlurLength}
+use Rattle.deblur.specs.Conditions.{iteratedConditions}
 use Rattle.deblur.specs.Refusal.{
   scratchNeeded,
-  factorRefusal,
-  iterationsRefusal,
   iteratedRefusal,
   scratchShort,
   lentRefusal,
   LengthTaken,
 }
+use Rattle.deblur.proofs.Conditions.{iterated-matches}
 use Rattle.deblur.proofs.Refusals.{iterated-taken, order-pictures, order-lent, order-zero}
 use Rattle.job.specs.declared.JobResult.{JobResult}
 use Rattle.job.specs.declared.JobAnswer.{JobAnswer}
 use Rattle.job.specs.declared.JobAnswer.the-variants.{Done, Refused}
+use Rattle.job.specs.Conditions.{lentConditions}
 use Rattle.job.specs.Job.{
+  Layout,
   Job,
   lentShort,
   picturesRefusal,
@@ -119,55 +115,42 @@ module _ (j : Job) where
 
 -- ---- they are 1 to 10
 
-cond-most : (b : Bool) (m n : ℕ) → m ≤ 10 → n ≤ 10 → cond b m n ≤ 10
-cond-most true m n h g = h
-cond-most false m n h g = g
+module _ (j : Job) where
+  abbrev src : Gray8
+  src = j .source
 
-first-most : (m n : ℕ) → m ≤ 10 → n ≤ 10 → firstRefusal m n ≤ 10
-first-most zero n h g = g
-first-most (suc m) n h g = h
+  abbrev dst : Layout
+  dst = j .destination
 
--- two tests, for a number and the next
-tests-most : (b c : Bool) (m : ℕ) → m + 1 ≤ 10 → cond b m (cond c (m + 1) 0) ≤ 10
-tests-most b c m h = cond-most b m (cond c (m + 1) 0) (omega arith) (cond-most c (m + 1) 0 h (omega arith))
+  -- what is refused before anything is measured
+  abbrev pub early : List Refusal
+  early =
+      pairConditions (length (src .bytes)) (src .width) (src .height) (src .stride) (dst .len) (dst .width)
+      (dst .height) (dst .stride)
+      ++ (iteratedConditions (j .config .relaxation) (j .config .iterations)
+      ++ lentConditions (src .width) (src .height) (j .scratch-len) (j .swings-len))
 
-module _ (w h : ℕ) where
-  layout-most : (len stride : ℕ) → layoutRefusal len w h stride ≤ 10
-  unfolding layoutRefusal sidesRefusal rowsRefusal
-  layout-most len stride =
-      first-most (sidesRefusal w h) (rowsRefusal len w h stride)
-      (tests-most (eqb w 0 || eqb h 0) (ltb maxSide w || ltb maxSide h) 1 (omega arith))
-      (tests-most (ltb stride w) (ltb len (stride * (h - 1) + w)) 3 (omega arith))
+  pub early-matches : FirstMatch early (jobRefusal j)
+  unfolding jobRefusal
+  early-matches =
+      let len = length (src .bytes) in
+      let w = src .width in
+      let h = src .height in
+      match-then (pair-matches len w h (src .stride) (dst .len) (dst .width) (dst .height) (dst .stride))
+      (pair-numbered len w h (src .stride) (dst .len) (dst .width) (dst .height) (dst .stride))
+      (match-then (iterated-matches (j .config .relaxation) (j .config .iterations)) (tt, (tt, (tt, tt)))
+      (match-test 10 match-none
+      (or-iff _ _ (ltb-iff (j .scratch-len) (scratchNeeded w h)) (ltb-iff (j .swings-len) (w * h)))))
 
-  pair-most : (len stride dstLen dstWidth dstHeight dstStride : ℕ)
-      → pairRefusal len w h stride dstLen dstWidth dstHeight dstStride ≤ 10
-  unfolding pairRefusal destinationRefusal sizesRefusal
-  pair-most len stride dstLen dstWidth dstHeight dstStride =
-      first-most (layoutRefusal len w h stride)
-      (firstRefusal (destinationRefusal dstLen dstWidth dstHeight dstStride) (sizesRefusal w h dstWidth dstHeight))
-      (layout-most len stride)
-      (first-most (destinationRefusal dstLen dstWidth dstHeight dstStride) (sizesRefusal w h dstWidth dstHeight)
-      (cond-most (eqb (layoutRefusal dstLen dstWidth dstHeight dstStride) 0) 0 5 (omega arith) (omega arith))
-      (cond-most (eqb dstWidth w && eqb dstHeight h) 0 6 (omega arith) (omega arith)))
+  pub early-numbered : Numbered early
+  early-numbered = (tt, (tt, (tt, (tt, (tt, (tt, (tt, (tt, (tt, (tt, tt))))))))))
 
-iterated-most : (relaxation : Float) (iterations : ℕ) → iteratedRefusal relaxation iterations ≤ 10
-unfolding factorRefusal iterationsRefusal
-iterated-most relaxation iterations =
-    first-most (factorRefusal maxRelaxation relaxation) (iterationsRefusal iterations)
-    (cond-most (not (within maxRelaxation relaxation)) 8 0 (omega arith) (omega arith))
-    (tests-most (eqb iterations 0) (ltb maxIterations iterations) 8 (omega arith))
-
-pub job-most : (j : Job) → jobRefusal j ≤ 10
-unfolding jobRefusal
-job-most j =
-    let rest = firstRefusal (settings j) (lentRefusal (short j)) in
-    let src = j .source in
-    let dst = j .destination in
-    first-most (pictures j) rest
-    (pair-most (src .width) (src .height) (length (src .bytes)) (src .stride) (dst .len) (dst .width)
-    (dst .height) (dst .stride))
-    (first-most (settings j) (lentRefusal (short j)) (iterated-most (j .config .relaxation) (j .config .iterations))
-    (cond-most (short j) 10 0 (omega arith) (omega arith)))
+  early-keeps : KeepsScratch (jobRefusal j)
+  early-keeps =
+      record {
+        not-11 = not-given early-matches 11 (tt, (tt, (tt, (tt, (tt, (tt, (tt, (tt, (tt, (tt, tt))))))))));
+        not-12 = not-given early-matches 12 (tt, (tt, (tt, (tt, (tt, (tt, (tt, (tt, (tt, (tt, tt))))))))));
+      }
 
 -- ---- the length of a plan
 
@@ -285,11 +268,7 @@ plan-leaves j e leaves none = ⊎-elim (leaves .not-11) (leaves .not-12) (plan-l
 
 pub plan-early : (j : Job) → (jobRefusal j ≡ 0 → ⊥) → (plan j ≡ refuses (jobRefusal j)) × KeepsScratch (jobRefusal j)
 unfolding plan
-plan-early j some =
-    let most = job-most j in (
-      unless-refuses (jobRefusal j) _ some,
-      record { not-11 = λ z. omega arith; not-12 = λ z. omega arith },
-    )
+plan-early j some = (unless-refuses (jobRefusal j) _ some, early-keeps j)
 
 -- ---- an accepted plan
 

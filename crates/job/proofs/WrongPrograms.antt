@@ -166,7 +166,7 @@ pub refuses-everything : (new : List ℕ) (number : ℕ) → Demand-3-of columns
 refuses-everything new number = not-refused (runs .0)
 
 -- the estimate call, where enough is lent
-pub refuses-every-estimate : (old new scratch scratch′ : List ℤ) (number : ℕ) → 30 ≤ length old → 90 ≤ length scratch
+pub refuses-every-estimate : (old new scratch scratch′ : List ℤ) (number : ℕ) → 30 ≤ length old → 30 ≤ length scratch
     → EstimateWritten (columns .source) old new (estimateFilter (columns .config) vertical-5 1) scratch scratch′
     (restoration.Refused number)
     → ⊥

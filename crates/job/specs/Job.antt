@@ -81,8 +81,7 @@ jobDefault =
 -- ---- "Refusals, first match wins": 1 to 6 of the pictures, 8 and 9 of the settings, 10 of what is lent. 0 is no
 -- refusal.
 
--- 10 scratch is shorter than 3 × width × height i32, or than width × height swing records: "both kinds for the whole
--- job"
+-- 10 scratch is shorter than `scratchNeeded` i32, or than width × height swing records: "both kinds for the whole job"
 abbrev pub lentShort : ℕ → ℕ → ℕ → ℕ → Bool
 lentShort width height scratchLen swingsLen = scratchShort width height scratchLen || ltb swingsLen (width * height)
 

@@ -3,5 +3,6 @@ pub mod Exact
 pub mod Job
 pub mod Parts
 pub mod Conditions
+pub mod Before
 pub mod ExactJob
 pub mod Demands

@@ -57,9 +57,10 @@ fn job_refusal(
         return pictures;
     }
     let settings = iterated_refusal(config.relaxation, config.iterations);
-    let scratch_short = scratch_len < scratch_needed(width, height);
-    let swings_short = swings_len < width * height;
-    first_refusal(settings, lent_refusal(scratch_short | swings_short))
+    let needed = scratch_needed(width, height);
+    let pixels = width * height;
+    let short = (scratch_len < needed) | (swings_len < pixels);
+    first_refusal(settings, lent_refusal(short))
 }
 
 // The refusal, and the direction to measure along.

@@ -50,7 +50,7 @@ uint8_t smear_fixed_binomial_unsharp(
 /* Restoration of `src` along the direction nearest to `angle`, cut to 0..255, into `dst`. `blur_length` is odd, from 3
  * to 2 * max(width, height) + 1; `iterations` 1 to 22; `relaxation` 0 to 1. `border` is what stands beyond a line's
  * ends: 0 their nearer pixel, 1 the line reflected, 3 the line again, any other `border_value`. `scratch` has at least
- * 3 * width * height elements. *direction is the direction taken.
+ * 3 * max(width, height) elements. *direction is the direction taken.
  * Refusals: 1 to 4 of the source, 5 of the destination's layout, 6 of two sizes that differ, 7 of the length and the
  * angle, 8 and 9 of the iterations and the relaxation, 10 of a short scratch. */
 uint8_t smear_van_cittert_line(
@@ -77,7 +77,7 @@ uint8_t smear_directional_unsharp_line(
 
 /* The whole job: the direction from the picture, the length along it, raised to an odd blur length, and restoration of
  * `src` by them, cut to 0..255, into `dst`. Thresholds as for the length, the other settings as for the restoration.
- * `scratch` has at least 3 * width * height elements and `swings` width * height. *direction, *blur_length and
+ * `scratch` has at least 3 * max(width, height) elements and `swings` width * height. *direction, *blur_length and
  * *estimate are what was measured.
  * Refusals: 1 to 4 of the source, 5 of the destination's layout, 6 of two sizes that differ, 8 and 9 of the iterations
  * and the relaxation, 10 of a short scratch or too few swings, 11 of no length, 12 of a blur length above
@@ -95,7 +95,7 @@ uint8_t smear_restore(
  * "refused N\n" (13 where `job` is no job's record) and "too large\n" (more than 4,096 pixels). *written is how many
  * bytes that is, at most 4,128; what stands behind them in `out` is not changed. 10 where `out` is shorter, and nothing
  * is changed.
- * On the stack: local arrays of at most 151,552 bytes. */
+ * On the stack: local arrays of at most 114,688 bytes. */
 uint8_t smear_run(
     const uint8_t *job, size_t job_len, const uint8_t *picture, size_t picture_len,
     uint8_t *out, size_t out_len, size_t *written);

@@ -1,6 +1,7 @@
 -- Laws of `smear_run`.
 pub mod Conditions
 pub mod Determined
+pub mod Enough
 pub mod Fronts
 pub mod Stages
 pub mod Printed

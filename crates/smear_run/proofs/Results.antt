@@ -28,6 +28,7 @@ use Rattle.smear_run.specs.Stage.{
   recordRestoration,
   recordUnsharp,
   recordJob,
+  lineScratch,
   lineMade,
   lineStage,
   planned,
@@ -61,17 +62,18 @@ module _ (bytes : List ℕ) (r : Record) (reads : readRecord bytes ≡ read.Reco
       let w = r .width in
       let h = r .height in
       let n = f .refusal w h in
-      decided-written (lineMade r f picture) (filterRefusal (length picture) w h w (w * h) w h w n 12288) _ λ none.
-      let t = taken (filter-accepted (length picture) w h w (w * h) w h w n 12288 none .settings-taken) in
+      decided-written (lineMade r f picture) (filterRefusal (length picture) w h w (w * h) w h w n lineScratch) _
+      λ none.
+      let t = taken (filter-accepted (length picture) w h w (w * h) w h w n lineScratch none .settings-taken) in
       used-written bytes r reads (f .direction) (r .«blur_length») (r .estimate) line
       (length-legal (r .width) (r .height) (r .«blur_length») (t .least) (t .odd) (t .most)) (job-estimate r is-job)
 
   job-written : (relaxation : Float) → filterCode (r .filter) ≤ 2 → Written (wholeJob r relaxation picture)
   job-written relaxation line =
-      go (planned picture (r .width) (r .height) (r .width * r .height) (recordJob r relaxation) 12288) refl
+      go (planned picture (r .width) (r .height) (r .width * r .height) (recordJob r relaxation) lineScratch) refl
     where
       go : (d : Decision JobResult)
-          → planned picture (r .width) (r .height) (r .width * r .height) (recordJob r relaxation) 12288 ≡ d
+          → planned picture (r .width) (r .height) (r .width * r .height) (recordJob r relaxation) lineScratch ≡ d
           → Written (makes (jobMade r (recordJob r relaxation) picture) d)
       go (accepts result) e =
           let t = plan-length _ e in

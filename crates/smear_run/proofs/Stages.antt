@@ -33,6 +33,7 @@ use Rattle.smear_run.specs.Stage.{
   recordRestoration,
   recordUnsharp,
   recordJob,
+  lineScratch,
   lineMade,
   lineStage,
   jobMade,
@@ -76,7 +77,7 @@ module _ (r : Record) (old new : List ℕ) (answer : FilterAnswer) where
   line-told f picture (refuses number) = refl
 
   pub line-filtered : (picture : List ℕ) {f f′ : LineFilter} {scratch scratch′ : List ℤ} {a : RestorationAnswer}
-      → f ≡ f′ → length old ≡ r .width * r .height → length scratch ≡ 12288
+      → f ≡ f′ → length old ≡ r .width * r .height → length scratch ≡ lineScratch
       → calls.Filtered (tight r picture) (tight r old) new f scratch scratch′ a
       → answer ≡ lineAnswer r a → Filtered (lineStage r f′ picture) r old new answer
   line-filtered picture {f} ef el ek o e =
@@ -100,7 +101,7 @@ module _ (r : Record) (old new : List ℕ) (answer : FilterAnswer) where
   job-told config picture (refuses number) = refl
 
   pub job-filtered : (picture : List ℕ) (relaxation : Float) {config : JobConfig} {k : ℕ} {a : JobAnswer}
-      → config ≡ recordJob r relaxation → length old ≡ r .width * r .height → k ≡ 12288
+      → config ≡ recordJob r relaxation → length old ≡ r .width * r .height → k ≡ lineScratch
       → Measured picture (r .width) (r .height) config k old new a
       → answer ≡ measuredAnswer r a → Filtered (wholeJob r relaxation picture) r old new answer
   job-filtered picture relaxation {config} ec el ek m e =

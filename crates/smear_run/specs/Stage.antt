@@ -7,9 +7,10 @@ use lib.ListN.{length}
 use Rattle.numbers.specs.Scalar.{clampByte}
 use Rattle.image.specs.Call.{Gray8, gray8, Decision, accepts, refuses, decided}
 use Rattle.image.specs.Picture.{pixel}
+use Rattle.image.specs.Refusal.{maxSide}
 use Rattle.raster.specs.declared.direction.RasterDirection4.{RasterDirection4}
 use Rattle.deblur.specs.Calls.{lastEstimate}
-use Rattle.deblur.specs.Refusal.{filterRefusal}
+use Rattle.deblur.specs.Refusal.{scratchNeeded, filterRefusal}
 use Rattle.deblur.specs.Settings.{LineFilter, restorationOf, unsharpOf}
 use Rattle.deblur.specs.declared.DirectionalUnsharpConfig.{DirectionalUnsharpConfig}
 use Rattle.deblur.specs.declared.VanCittertConfig.{VanCittertConfig}
@@ -78,9 +79,9 @@ recordJob r relaxation = record {
 abbrev pub mostPixels : ℕ
 mostPixels = 4096
 
--- how many i32 a line filter has
+-- how many i32 a line filter has: enough for a line of any picture
 abbrev pub lineScratch : ℕ
-lineScratch = 3 * mostPixels
+lineScratch = scratchNeeded maxSide maxSide
 
 -- a tight picture of the record's sides
 abbrev pub tight : Record → List ℕ → Gray8

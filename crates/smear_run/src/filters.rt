@@ -85,7 +85,7 @@ fn line_answer(record: Record, answer: RestorationAnswer) -> FilterAnswer
     }
 }
 
-// On the stack: 12,288 i32, 49,152 bytes.
+// On the stack: 3,072 i32, 12,288 bytes.
 fn restoration(record: Record, relaxation: f64, picture: &[u8], dst: &mut [u8]) -> FilterAnswer
     requires { ⌜ length (now dst) ≡ «record» .width * «record» .height ⌝ }
     ensures { λ r. ⌜ Filtered (lineStage «record» (restorationOf (recordRestoration «record» relaxation))
@@ -110,7 +110,7 @@ fn restoration(record: Record, relaxation: f64, picture: &[u8], dst: &mut [u8]) 
     line_answer(record, answer)
 }
 
-// On the stack: 12,288 i32, 49,152 bytes.
+// On the stack: 3,072 i32, 12,288 bytes.
 fn unsharp(record: Record, gain: f64, picture: &[u8], dst: &mut [u8]) -> FilterAnswer
     requires { ⌜ length (now dst) ≡ «record» .width * «record» .height ⌝ }
     ensures { λ r. ⌜ Filtered (lineStage «record» (unsharpOf (recordUnsharp «record» gain)) (now (picture .entry)))

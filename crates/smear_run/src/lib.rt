@@ -2,6 +2,7 @@
 ghost use Rattle.smear_run.specs.Output.{Ran};
 use crate::output::run_record;
 use crate::text::put_refusal;
+use image::view::Gray8View;
 use record::ReadAnswer;
 
 mod filters;
@@ -16,7 +17,7 @@ pub const MOST_PIXELS: usize = 4096;
 pub const MOST_PRINTED: usize = MOST_PIXELS + 32;
 
 // How many i32 a line filter asks for at most.
-const LINE_SCRATCH: usize = 3 * MOST_PIXELS;
+const LINE_SCRATCH: usize = 3 * Gray8View::MAX_SIDE;
 
 pub enum RunAnswer {
     // How many bytes are printed.

@@ -72,7 +72,7 @@ fn with_result(record: Record, result: JobResult) -> Record
     )
 }
 
-// On the stack: 12,288 i32, 49,152 bytes.
+// On the stack: 3,072 i32, 12,288 bytes.
 pub(crate) fn whole_job(
     record: Record,
     relaxation: f64,

@@ -1,7 +1,7 @@
 -- Document 01's cases that are marked ★, all of them in the document's order, and then the examples of document 02's
 -- requests, are one list, and one theorem says that each has the value beside it. What a case has is told by the
 -- definitions that the calls' contracts cite, and the two are compared by `≡` alone: no test of our own stands between.
-use Prim.Native.Nat.{ℕ, zero, suc}
+use Prim.Native.Nat.{ℕ, zero, suc, _*_}
 use mathlib.Core.List.{List, [], _∷_, _++_, map}
 use mathlib.Core.Path.{_≡_, refl}
 use lib.IntN.{ℤ, pos, negsuc}
@@ -44,7 +44,7 @@ use Rattle.deblur.specs.Refusal as deblur
 use Rattle.deblur.specs.Settings.{LineFilter, restorationOf, unsharpOf}
 use Rattle.sharpen.specs.Binomial.{tapPlace, binomialSum, sharper, unsharp}
 use Rattle.sharpen.specs.Call.{binomialRefusal}
-use Rattle.job.specs.Job.{layout, jobOf, jobRefusal, pictureDirection, plan, jobAnswer}
+use Rattle.job.specs.Job.{layout, jobOf, jobDefault, jobRefusal, pictureDirection, plan, jobAnswer}
 use Rattle.job.specs.declared.JobAnswer.{JobAnswer}
 use Rattle.job.specs.declared.JobAnswer.the-variants.{Refused}
 use Rattle.record.specs.Bytes.{littleEndian}
@@ -141,6 +141,10 @@ data Question : Type 0 where
   -- document 02, K3: a file that is read; the row written, by the room there is
   pgm-of : List ℕ → Question
   row-as-pgm : ℕ → Question
+  -- document 02, K5: restoration and estimate call by the sides of a picture, the scratch, and the estimates' room
+  lines-lent : ℕ → ℕ → ℕ → ℕ → Question
+  -- .. and the whole job, by the sides, the scratch, and the records
+  job-lent : ℕ → ℕ → ℕ → ℕ → Question
 
 data Answer : Type 0 where
   direction : RasterDirection4 → Answer
@@ -154,6 +158,8 @@ data Answer : Type 0 where
   planned : JobAnswer → Answer
   sheet : SummaryAnswer → Answer
   read : PgmAnswer → Answer
+  -- of refusals, where 0 is none
+  numbers : List ℕ → Answer
 
 -- what a call gives, or its refusal
 unless : ℕ → Answer → Answer
@@ -229,12 +235,19 @@ value (job-on-ramps minimum) =
       relaxation = ofBits binary64 0x3ff0_0000_0000_0000;
       border = Replicate;
     })
-    90 30)))
+    30 30)))
 value row-binomial = written (binomialRefusal 5 5 1 5 5 5 1 5 5) (unsharp (pixel row 5) 5 1)
 value (sheet-of file) = sheet (summarized file)
 value (drum-estimated L iterations) = estimated (along-row L iterations Wrap)
 value (pgm-of file) = read (readAnswer (readDecision file))
 value (row-as-pgm room) = bytes (writeDecision (gray8 row 5 1 5) room)
+value (lines-lent w h scratch room) =
+    let settings = along-row 3 1 Replicate .refusal w h in
+    numbers (deblur.filterRefusal (w * h) w h w (w * h) w h w settings scratch
+    ∷ deblur.estimateRefusal (w * h) w h w room settings scratch ∷ [])
+value (job-lent w h scratch records) =
+    let black = gray8 (replicate (w * h) 0) w h w in
+    numbers (jobRefusal (jobOf black (layout (w * h) w h w) jobDefault scratch records) ∷ [])
 
 -- ---- the list
 
@@ -325,6 +338,21 @@ cases =
     gives pixels (0x50 ∷ 0x35 ∷ 0xa ∷ 0x35 ∷ 0xa ∷ 0x31 ∷ 0xa ∷ 0x32 ∷ 0x35 ∷ 0x35 ∷ 0xa
     ∷ 0xa ∷ 0xa ∷ 0x28 ∷ 0xa ∷ 0xa ∷ [])
     ∷ row-as-pgm 15 gives refused 5
+    -- K5: on 5 by 3 and on 3 by 5 scratch of 14 gives 10 and 15 is accepted, on 1,024 by 1,024 3,072; estimates and
+    -- records are as many as the pixels
+    ∷ lines-lent 5 3 14 15 gives numbers (10 ∷ 10 ∷ [])
+    ∷ lines-lent 5 3 15 15 gives numbers (0 ∷ 0 ∷ [])
+    ∷ lines-lent 5 3 15 14 gives numbers (0 ∷ 10 ∷ [])
+    ∷ lines-lent 3 5 14 15 gives numbers (10 ∷ 10 ∷ [])
+    ∷ lines-lent 3 5 15 15 gives numbers (0 ∷ 0 ∷ [])
+    ∷ lines-lent 1024 1024 3071 1048576 gives numbers (10 ∷ 10 ∷ [])
+    ∷ lines-lent 1024 1024 3072 1048576 gives numbers (0 ∷ 0 ∷ [])
+    ∷ lines-lent 1024 1024 3072 1048575 gives numbers (0 ∷ 10 ∷ [])
+    ∷ job-lent 5 3 14 15 gives numbers (10 ∷ [])
+    ∷ job-lent 5 3 15 15 gives numbers (0 ∷ [])
+    ∷ job-lent 5 3 15 14 gives numbers (10 ∷ [])
+    ∷ job-lent 3 5 14 15 gives numbers (10 ∷ [])
+    ∷ job-lent 3 5 15 15 gives numbers (0 ∷ [])
     ∷ []
 
 -- ---- the theorem
@@ -336,5 +364,5 @@ unfolding cases value ofBits ofInt add sub mul div rem le lt eq fromAngle length
     deblur.factorRefusal deblur.iterationsRefusal estimate estimateOn iteration.after iteration.stepped plan jobRefusal
     pictureDirection estimateOf tensorSums tensorDirection interiorSum rowSum gradientX gradientY binomialRefusal
     sharper binomialSum tapPlace count summarized readRecord recordOf decoded legal littleEndian onFrom readDecision
-    sidesRefusal digits digitCount tabulate
+    sidesRefusal digits digitCount tabulate jobDefault
 stars = refl

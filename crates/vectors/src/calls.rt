@@ -73,8 +73,9 @@ fn restoration_outcome(answer: RestorationAnswer) -> Outcome {
     }
 }
 
+// The longest line of the list has 16 pixels.
 fn restore(c: Case, source: &[u8], destination: &mut [u8]) -> Outcome {
-    let mut scratch = [0i32; 768];
+    let mut scratch = [0i32; 48];
     let config = VanCittertConfig {
         theta_radians: c.angle,
         blur_length: c.blur_length,
@@ -97,7 +98,7 @@ fn restore(c: Case, source: &[u8], destination: &mut [u8]) -> Outcome {
 }
 
 fn unsharp(c: Case, source: &[u8], destination: &mut [u8]) -> Outcome {
-    let mut scratch = [0i32; 768];
+    let mut scratch = [0i32; 48];
     let config = DirectionalUnsharpConfig {
         theta_radians: c.angle,
         blur_length: c.blur_length,

@@ -1,18 +1,19 @@
--- `deblur::kernel::scratch_needed` meets its contract: the area of an accepted picture is at most 2^20.
-use native.Mathlib.Nat.{mul-le-mul}
+-- `deblur::kernel::scratch_needed` meets its contract.
+use mathlib.Core.Path.{ap}
 use native.Mathlib.Omega.{arith}
+use Prim.Native.Nat.{ℕ, _*_}
 use borrow.Author.Needs.{needs}
 use Rattle.deblur.proofs.kernel.scratch_needed.Statement.{statement}
 use Rattle.deblur.proofs.kernel.scratch_needed.Tie as tie
 
-mul-result : tie.Need-mul-result
-mul-result c = omega (arith, mul-le-mul (c .pre .0) (c .pre .1))
+max-usize-requires : tie.Need-max-usize-requires
+max-usize-requires c κs = search needs
 
-mul-result-2 : tie.Need-mul-result-2
-mul-result-2 c = omega (arith, mul-le-mul (c .pre .0) (c .pre .1))
+mul-result : tie.Need-mul-result
+mul-result c = let p = c .before .pre in omega (arith, c .max-usize .ensures, p .0, p .1)
 
 returns : tie.Need-returns
-returns c = search needs
+returns c = ap (λ (m : ℕ). 3 * m) (c .max-usize .ensures)
 
 pub scratch-needed-spec : {M : Type 1} → statement M
-scratch-needed-spec = tie.close (tie.spec mul-result mul-result-2 returns)
+scratch-needed-spec = tie.close (tie.spec max-usize-requires mul-result returns)

@@ -19,8 +19,8 @@ returns c =
 source : (c : tie.Else1) → let a = c .before .before .args in Laid (a .len) (a .width) (a .height) (a .stride)
 source c = laid (sym (c .before .layout-refusal .ensures) ∙ c .if1 .left)
 
-mul-dst-short : tie.Need-mul-dst-short
-mul-dst-short c = omega (arith, area-most (source c))
+mul-pixels : tie.Need-mul-pixels
+mul-pixels c = omega (arith, area-most (source c))
 
 scratch-needed-requires : tie.Need-scratch-needed-requires
 scratch-needed-requires c κs = let l = source c in (l .width-most, l .height-most)
@@ -44,7 +44,7 @@ estimate-refusal-spec =
     (tie.spec
     layout-refusal-requires
     returns
-    mul-dst-short
+    mul-pixels
     scratch-needed-requires
     lent-refusal-requires
     first-refusal-requires

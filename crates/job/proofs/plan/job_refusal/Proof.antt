@@ -1,9 +1,11 @@
 -- `job::plan::job_refusal` meets its contract.
+use native.Mathlib.Omega.{arith}
 use borrow.Author.Needs.{needs}
 use mathlib.Core.Path.{_≡_, sym, _∙_}
 use lib.ListN.{length}
 use Rattle.image.specs.Refusal.{pairRefusal}
 use Rattle.image.proofs.Pair.{laid-pair}
+use Rattle.image.proofs.Refusal.{area-most}
 use Rattle.job.proofs.Plans.{job-pictures, job-lent}
 use Rattle.job.proofs.plan.job_refusal.Statement.{statement}
 use Rattle.job.proofs.plan.job_refusal.Tie as tie
@@ -27,8 +29,8 @@ iterated-refusal-requires c κs = search needs
 scratch-needed-requires : tie.Need-scratch-needed-requires
 scratch-needed-requires c κs = let l = laid-pair (pictures-taken (c .before)) .source in (l .width-most, l .height-most)
 
-mul-swings-short : tie.Need-mul-swings-short
-mul-swings-short c = search needs
+mul-pixels : tie.Need-mul-pixels
+mul-pixels c = omega (arith, area-most (laid-pair (pictures-taken (c .before .before)) .source))
 
 lent-refusal-requires : tie.Need-lent-refusal-requires
 lent-refusal-requires c κs = search needs
@@ -53,7 +55,7 @@ job-refusal-spec =
     returns
     iterated-refusal-requires
     scratch-needed-requires
-    mul-swings-short
+    mul-pixels
     lent-refusal-requires
     first-refusal-requires
     returns-2)

@@ -4,6 +4,7 @@ use mathlib.Core.Path.{ap}
 use lib.IntN.{ℤ, pos}
 use lib.ListN.{length-replicate}
 use Rattle.deblur.specs.Settings.{restorationOf}
+use Rattle.smear_run.specs.Stage.{lineScratch}
 use Rattle.smear_run.proofs.Stages.{line-filtered}
 use Rattle.smear_run.proofs.filters.restoration.Statement.{statement}
 use Rattle.smear_run.proofs.filters.restoration.Tie as tie
@@ -35,7 +36,7 @@ returns c =
     let settings = called .before .before .before in
     let s = settings .before .before .before .before .before in
     line-filtered _ _ _ _ (s .args .picture .now) (ap restorationOf (settings .restoration-config .ensures)) (s .pre)
-    (length-replicate {A = ℤ} 12288 (pos 0))
+    (length-replicate {A = ℤ} lineScratch (pos 0))
     (called .van-cittert-line-into .ensures) (c .line-answer .ensures)
 
 pub restoration-spec : {M : Type 1} → statement M

@@ -4,6 +4,7 @@ use mathlib.Core.Path.{ap}
 use lib.IntN.{ℤ, pos}
 use lib.ListN.{length-replicate}
 use Rattle.deblur.specs.Settings.{unsharpOf}
+use Rattle.smear_run.specs.Stage.{lineScratch}
 use Rattle.smear_run.proofs.Stages.{line-filtered}
 use Rattle.smear_run.proofs.filters.unsharp.Statement.{statement}
 use Rattle.smear_run.proofs.filters.unsharp.Tie as tie
@@ -36,7 +37,7 @@ returns c =
     let settings = called .before .before .before in
     let s = settings .before .before .before .before .before in
     line-filtered _ _ _ _ (s .args .picture .now) (ap unsharpOf (settings .unsharp-config .ensures)) (s .pre)
-    (length-replicate {A = ℤ} 12288 (pos 0))
+    (length-replicate {A = ℤ} lineScratch (pos 0))
     (called .directional-unsharp-line-into .ensures) (c .line-answer .ensures)
 
 pub unsharp-spec : {M : Type 1} → statement M

@@ -4,6 +4,7 @@ use mathlib.Core.Path.{sym, ap, _∙_}
 use lib.IntN.{ℤ, pos}
 use lib.ListN.{length-replicate}
 use Rattle.smear_run.specs.Parts.{measuredAnswer}
+use Rattle.smear_run.specs.Stage.{lineScratch}
 use Rattle.smear_run.specs.declared.filters.FilterAnswer.the-variants.{Done}
 use Rattle.smear_run.proofs.Stages.{job-filtered, measured-short}
 use Rattle.smear_run.proofs.whole_job.whole_job.Statement.{statement}
@@ -49,7 +50,7 @@ returns c =
     let casts = config .before .before .before in
     let start = casts .before .before .before in
     let r = start .args .«record» in
-    job-filtered r _ _ _ _ _ (config .job-config .ensures) (start .pre) (length-replicate {A = ℤ} 12288 (pos 0))
+    job-filtered r _ _ _ _ _ (config .job-config .ensures) (start .pre) (length-replicate {A = ℤ} lineScratch (pos 0))
     (call .restore .ensures) (ap Done (c .with-result .ensures) ∙ sym (ap (measuredAnswer r) (known .result .given .1)))
 
 same-length-2 : tie.Need-same-length-2
@@ -64,7 +65,7 @@ returns-2 c =
     let casts = config .before .before .before in
     let start = casts .before .before .before in
     let r = start .args .«record» in
-    job-filtered r _ _ _ _ _ (config .job-config .ensures) (start .pre) (length-replicate {A = ℤ} 12288 (pos 0))
+    job-filtered r _ _ _ _ _ (config .job-config .ensures) (start .pre) (length-replicate {A = ℤ} lineScratch (pos 0))
     (call .restore .ensures) (sym (ap (measuredAnswer r) (known .number .given .1)))
 
 pub whole-job-spec : {M : Type 1} → statement M

@@ -153,8 +153,8 @@ static int restore(void) {
         return 0;
     size_t side = read_pgm(in), area = side * side;
     if (length == 0)
-        refusal = smear_restore(src, area, side, side, side, dst, area, side, side, side, 8, 24, iterations, relaxation,
-                                0, 0, scratch, 3 * side, swings, area, &direction, &length, &estimate);
+        refusal = smear_restore(src, area, side, side, side, dst, area, side, side, side, 8, 24, 0, iterations,
+                                relaxation, 0, 0, scratch, 3 * side, swings, area, &direction, &length, &estimate);
     else
         refusal = smear_van_cittert_line(src, area, side, side, side, dst, area, side, side, side, angle, length,
                                          iterations, relaxation, 0, 0, scratch, 3 * side, &direction);

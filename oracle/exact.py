@@ -5,6 +5,8 @@ Small random jobs go through the C interface (smear_restore, then smear_van_citt
 iterations). The exact run is computed here from the document's words alone:
 N(k+1) = S * Nk + q * (L * S^k * B - window sum of Nk). Every estimate and every destination byte must lie within
 demand 3's bounds; the largest error / bound seen is printed for each k. The borders take turns, Wrap among them.
+The exact run obeys document 02's floor (K6): 17 must be given where the confidence, by sums that are taken here, is
+below it, and nowhere else.
 
 Usage: oracle/exact.py [--seed N] [--count N]     (tools/library.py makes what it calls)
 """
@@ -23,6 +25,8 @@ import library  # noqa: E402
 STEPS = [(1, 0), (1, 1), (0, 1), (-1, 1)]
 ANGLES = [0.0, 0.75, 1.5, 2.25]
 BORDERS = ["Replicate", "Reflect", "Constant", "Wrap"]
+# the Sobel gradient's places across its direction, with their weights
+SMOOTH = [(-1, 1), (0, 2), (1, 1)]
 
 
 class Swing(ctypes.Structure):
@@ -53,6 +57,24 @@ def source_of(p, n, border):
     if border == 3:
         return p % n
     return p if 0 <= p < n else None
+
+
+def sums_of(picture, w, h):
+    """A, C and E, from the Sobel gradients at the interior pixels."""
+    a = c = e = 0
+    for y in range(1, h - 1):
+        for x in range(1, w - 1):
+            gx = sum(k * (picture[(y + d) * w + x + 1] - picture[(y + d) * w + x - 1]) for d, k in SMOOTH)
+            gy = sum(k * (picture[(y + 1) * w + x + d] - picture[(y - 1) * w + x + d]) for d, k in SMOOTH)
+            a, c, e = a + gx * gx, c + gx * gy, e + gy * gy
+    return a, c, e
+
+
+def reaches(floor, a, c, e):
+    """Whether the confidence is at least floor / 256."""
+    if a + e == 0:
+        return floor == 0
+    return floor <= 256 and (512 - floor) ** 2 * ((a - e) ** 2 + 4 * c**2) >= floor**2 * (a + e) ** 2
 
 
 def exact_run(picture, w, h, step, length, q, border, value, iterations):
@@ -102,6 +124,9 @@ def main():
         iterations = rng.randint(1, 6)
         relaxation = rng.choice([1.0, 1.0, 0.5, 0.1, rng.random(), 65535 / 65536])
         border, value = accepted % 4, rng.randrange(256)
+        sums = sums_of(picture, w, h)
+        largest = max(floor for floor in range(257) if reaches(floor, *sums))
+        floor = rng.choice([0, 0, largest, largest, largest + 1, rng.randrange(257), 257])
         size, lent = w * h, 3 * max(w, h)
         dst = (ctypes.c_uint8 * size)()
         scratch = (ctypes.c_int32 * lent)()
@@ -110,10 +135,12 @@ def main():
         z, d = ctypes.c_size_t, ctypes.c_double
         code = lib.smear_restore(
             picture, z(size), z(w), z(h), z(w), dst, z(size), z(w), z(h), z(w),
-            z(1 + rng.randrange(4)), ctypes.c_uint8(24),
+            z(1 + rng.randrange(4)), ctypes.c_uint8(24), ctypes.c_uint16(floor),
             z(iterations), d(relaxation), ctypes.c_uint8(border), ctypes.c_uint8(value),
             scratch, z(lent), swings, z(size),
             ctypes.byref(direction), ctypes.byref(blur_length), ctypes.byref(estimate))
+        if (code == 17) == reaches(floor, *sums):
+            sys.exit(f"a picture whose A, C and E are {sums} gives {code} at the floor {floor}")
         if code:
             refused[code] = refused.get(code, 0) + 1
             continue

@@ -1,6 +1,6 @@
 """The proved library for Python: target/staticlib/libsmear_c.a made into a shared library, which ctypes loads; its
-functions are those of crates/smear_c/include/smear.h. What is not built yet is built first: the archive by
-`rt staticlib smear_c`, which proves it, and the shared library by the C compiler."""
+functions are those of crates/smear_c/include/smear.h. What is not built yet, or is older than that header, is built
+first: the archive by `rt staticlib smear_c`, which proves it, and the shared library by the C compiler."""
 import ctypes
 import functools
 import os
@@ -8,6 +8,7 @@ import subprocess
 import sys
 
 ROOT = os.path.dirname(os.path.dirname(os.path.abspath(__file__)))
+HEADER = os.path.join(ROOT, "crates", "smear_c", "include", "smear.h")
 ARCHIVE = os.path.join(ROOT, "target", "staticlib", "libsmear_c.a")
 SHARED = os.path.join(ROOT, "target", "tools", "libsmear_c.so")
 
@@ -27,13 +28,14 @@ def run(*command):
 
 
 def time_of(path):
-    """When the file was written, in ns; nothing where it is not there."""
-    return os.stat(path).st_mtime_ns if os.path.exists(path) else None
+    """When the file was written, in ns; 0 where it is not there."""
+    return os.stat(path).st_mtime_ns if os.path.exists(path) else 0
 
 
 def build():
-    """Builds what is not built. A shared library has its archive's time, so that another archive makes it anew."""
-    if not os.path.exists(ARCHIVE):
+    """Builds what is not built. An archive that is older than the header may take other arguments. A shared library has
+    its archive's time, so that another archive makes it anew."""
+    if time_of(ARCHIVE) < time_of(HEADER):
         print("building the library: rt staticlib smear_c", file=sys.stderr)
         run("rt", "staticlib", "smear_c")
     time = time_of(ARCHIVE)

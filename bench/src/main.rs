@@ -296,7 +296,7 @@ fn whole_jobs(only: &str, data: &[u8], dst: &mut [u8], other: &mut [u8]) {
                 let (mut direction, mut length, mut estimate) = (0, 0, 0.0);
                 smear_restore(
                     data.as_ptr(), PIXELS, SIDE, SIDE, SIDE, dst.as_mut_ptr(), PIXELS, SIDE, SIDE, SIDE,
-                    8, 24, iterations, 1.0, 0, 0,
+                    8, 24, 0, iterations, 1.0, 0, 0,
                     scratch.as_mut_ptr(), scratch.len(), swings.as_mut_ptr(), swings.len(),
                     &mut direction, &mut length, &mut estimate,
                 );

@@ -18,7 +18,7 @@ int main(void) {
     uint8_t direction;
     size_t length;
     double estimate;
-    uint8_t refusal = smear_restore(src, W * H, W, H, W, dst, W * H, W, H, W, 8, 24, 3, 1.0, 0, 0,
+    uint8_t refusal = smear_restore(src, W * H, W, H, W, dst, W * H, W, H, W, 8, 24, 0, 3, 1.0, 0, 0,
                                     scratch, SCRATCH, swings, W * H, &direction, &length, &estimate);
     if (refusal != 0)
         printf("refused %d\n", refusal);

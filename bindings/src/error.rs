@@ -40,6 +40,8 @@ pub enum ImgProcError {
     NoLength,
     /// Refusal 12: the smear is longer than twice the larger side and one.
     LengthTooLarge,
+    /// Refusal 17: the confidence of the picture's direction is below the minimum, or the minimum is above 256.
+    LowConfidence,
 }
 
 /// Refusal 13: a record that has no place on a sheet.
@@ -95,6 +97,7 @@ impl fmt::Display for ImgProcError {
             Self::DestinationTooSmall => "destination is too small for the estimates",
             Self::NoLength => "the picture does not show how long its smear is",
             Self::LengthTooLarge => "the smear is too long for the picture",
+            Self::LowConfidence => "the picture's direction is less clear than the minimum confidence",
         })
     }
 }
@@ -157,6 +160,7 @@ pub(crate) fn answer(refusal: u8) -> ImgProcResult<()> {
         10 => ImgProcError::DestinationTooSmall,
         11 => ImgProcError::NoLength,
         12 => ImgProcError::LengthTooLarge,
+        17 => ImgProcError::LowConfidence,
         _ => unreachable!("a view has an accepted layout: refusal {refusal}"),
     })
 }

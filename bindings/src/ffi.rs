@@ -112,7 +112,7 @@ pub fn directional_unsharp_line(
 pub fn restore(
     src: Gray8View<'_>,
     mut dst: Gray8ViewMut<'_>,
-    (transitions, amplitude): (usize, u8),
+    (transitions, amplitude, confidence): (usize, u8, u16),
     f: Filter,
     scratch: &mut [i32],
     swings: &mut [Swing],
@@ -123,7 +123,7 @@ pub fn restore(
         raw::smear_restore(
             src.bytes().as_ptr(), src.bytes().len(), src.width(), src.height(), src.stride(),
             dst.bytes().as_mut_ptr(), dst.bytes().len(), width, height, stride,
-            transitions, amplitude, f.iterations, f.factor, f.border.0, f.border.1,
+            transitions, amplitude, confidence, f.iterations, f.factor, f.border.0, f.border.1,
             scratch.as_mut_ptr(), scratch.len(), swings.as_mut_ptr(), swings.len(),
             &mut direction, &mut blur_length, &mut estimate,
         )

@@ -15,6 +15,9 @@ pub struct JobConfig {
     pub minimum_transitions: usize,
     /// By how much a line must change at least for a swing.
     pub minimum_amplitude: u8,
+    /// How confident the direction must be at least, in 256ths: 0, which every picture reaches, to 256. The confidence
+    /// is 1 minus the smaller over the larger eigenvalue of the gradients' tensor, so that of a round smear is near 0.
+    pub minimum_confidence: u16,
     /// 1 to 22.
     pub iterations: usize,
     /// 0 to 1, in steps of 1/65,536.
@@ -28,6 +31,7 @@ impl Default for JobConfig {
         Self {
             minimum_transitions: 8,
             minimum_amplitude: 24,
+            minimum_confidence: 0,
             iterations: 3,
             relaxation: 1.0,
             border: LineBorderMode::Replicate,
@@ -61,7 +65,7 @@ pub fn restore(
     workspace: &mut JobWorkspace,
 ) -> ImgProcResult<JobResult> {
     let swings = room(&mut workspace.swings, src.width() * src.height());
-    let thresholds = (config.minimum_transitions, config.minimum_amplitude);
+    let thresholds = (config.minimum_transitions, config.minimum_amplitude, config.minimum_confidence);
     let filter = Filter {
         angle: 0.0,
         blur_length: 0,

@@ -53,7 +53,7 @@ extern "C" {
     pub fn smear_restore(
         src: *const u8, src_len: usize, width: usize, height: usize, stride: usize,
         dst: *mut u8, dst_len: usize, dst_width: usize, dst_height: usize, dst_stride: usize,
-        minimum_transitions: usize, minimum_amplitude: u8,
+        minimum_transitions: usize, minimum_amplitude: u8, minimum_confidence: u16,
         iterations: usize, relaxation: f64, border: u8, border_value: u8,
         scratch: *mut i32, scratch_len: usize, swings: *mut Swing, swings_len: usize,
         direction: *mut u8, blur_length: *mut usize, estimate: *mut f64,

@@ -20,6 +20,13 @@ fn ramp() -> Vec<u8> {
     [0, 0, 0, 50, 100, 150, 200, 250, 250, 250].repeat(3)
 }
 
+/// 60 by 60 pixels: bars of 12 columns, smeared over 5 columns, whose phase turns half round after each 2 rows, so that
+/// most changes are across the rows.
+fn bars() -> Vec<u8> {
+    let bar = |x: usize, y: usize| if (x / 12 + y / 2) % 2 == 0 { 0 } else { 250 };
+    (0..60 * 60).map(|i| ((0..5).map(|k| bar(i % 60 + k, i / 60)).sum::<u32>() / 5) as u8).collect()
+}
+
 fn restored(row: &[u8; 5], config: &VanCittertConfig) -> [u8; 5] {
     let mut out = [0; 5];
     let src = Gray8View::new(row, 5, 1, 5).unwrap();
@@ -160,11 +167,7 @@ fn the_whole_job() {
     let answer = restore(Gray8View::new(&bytes, 10, 3, 10).unwrap(), dst, &JobConfig::default(), &mut workspace);
     assert_eq!(answer, Err(ImgProcError::NoLength));
     assert_eq!(out, [9; 30]);
-    // bars of 12 columns, smeared over 5 columns, whose phase turns half round after each 2 rows:
-    // most changes are across the rows
-    let bar = |x: usize, y: usize| if (x / 12 + y / 2) % 2 == 0 { 0 } else { 250 };
-    let bytes: Vec<u8> =
-        (0..60 * 60).map(|i| ((0..5).map(|k| bar(i % 60 + k, i / 60)).sum::<u32>() / 5) as u8).collect();
+    let bytes = bars();
     let src = Gray8View::new(&bytes, 60, 60, 60).unwrap();
     let mut whole = vec![0; 60 * 60];
     let dst = Gray8ViewMut::new(&mut whole, 60, 60, 60).unwrap();
@@ -177,6 +180,28 @@ fn the_whole_job() {
     let config = VanCittertConfig { blur_length: 5, ..VanCittertConfig::default() };
     van_cittert_line_into(src, dst, &config, &mut DeblurWorkspace::default()).unwrap();
     assert!(whole == parts && whole != bytes);
+}
+
+/// Document 02, K6: the confidence of the bars lies between 250 and 251 256ths.
+#[test]
+fn the_whole_job_with_a_floor() {
+    let bytes = bars();
+    let src = Gray8View::new(&bytes, 60, 60, 60).unwrap();
+    let run = |config: &JobConfig| {
+        let mut out = vec![9; 60 * 60];
+        let dst = Gray8ViewMut::new(&mut out, 60, 60, 60).unwrap();
+        (restore(src, dst, config, &mut JobWorkspace::default()), out)
+    };
+    let usual = run(&JobConfig::default());
+    assert!(usual.0.is_ok());
+    for minimum_confidence in [0, 1, 128, 250] {
+        let config = JobConfig { minimum_confidence, ..JobConfig::default() };
+        assert!(run(&config) == usual, "floor {minimum_confidence}");
+    }
+    for minimum_confidence in [251, 256, 257] {
+        let config = JobConfig { minimum_confidence, ..JobConfig::default() };
+        assert!(run(&config) == (Err(ImgProcError::LowConfidence), vec![9; 60 * 60]), "floor {minimum_confidence}");
+    }
 }
 
 #[test]

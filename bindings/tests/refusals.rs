@@ -211,6 +211,83 @@ fn a_length_beyond_the_picture() {
     );
 }
 
+/// A, C and E are 1300, -100 and 500: the confidence lies between 160 and 161 256ths.
+const UNCLEAR: [u8; 12] = [0, 0, 0, 0, 0, 10, 10, 0, 0, 0, 10, 0];
+
+/// The whole job with a floor, of a picture that does not show a length: it gets as far as that where the floor is
+/// reached.
+fn floored(pixels: &[u8], width: usize, minimum_confidence: u16) -> Result<(), ImgProcError> {
+    let (height, mut out) = (pixels.len() / width, vec![77; pixels.len()]);
+    let src = Gray8View::new(pixels, width, height, width).unwrap();
+    let dst = Gray8ViewMut::new(&mut out, width, height, width).unwrap();
+    let config = JobConfig { minimum_confidence, ..Default::default() };
+    let answer = restore(src, dst, &config, &mut JobWorkspace::default()).map(drop);
+    assert!(out.iter().all(|&byte| byte == 77), "a refusal changed the destination");
+    answer
+}
+
+/// Document 02, K6.
+#[test]
+fn floors_of_the_confidence() {
+    let ramp = [0, 0, 0, 50, 100, 150, 200, 250, 250, 250].repeat(3);
+    let spot = [0, 0, 0, 0, 0, 0, 1, 2, 1, 0, 0, 2, 4, 2, 0, 0, 1, 2, 1, 0, 0, 0, 0, 0, 0];
+    for (pixels, width, largest) in [
+        (&UNCLEAR[..], 4, 160),
+        // 16, 0 and 8, where equality is enough
+        (&[2, 2, 1, 2, 1, 1, 2, 2, 2, 2, 1, 0, 1, 2, 2, 1], 4, 128),
+        (&ramp, 10, 256),
+        // a round spot, no gradient at all, and sides below 3
+        (&spot, 5, 0),
+        (&[7; 9], 3, 0),
+        (&BYTES, 5, 0),
+        (&ramp[..20], 10, 0),
+        (&[0, 0, 50, 100, 150, 150], 2, 0),
+    ] {
+        for floor in (0..=300).chain([512, 513, u16::MAX]) {
+            let answer = if floor <= largest { ImgProcError::NoLength } else { ImgProcError::LowConfidence };
+            assert_eq!(floored(pixels, width, floor), Err(answer), "floor {floor} of {pixels:?}");
+        }
+    }
+}
+
+#[test]
+fn settings_before_the_floor() {
+    let config = JobConfig { minimum_confidence: 300, ..Default::default() };
+    assert_eq!(job(config), Err(ImgProcError::LowConfidence));
+    assert_eq!(job(JobConfig { iterations: 0, ..config }), Err(ImgProcError::InvalidConfiguration));
+    assert_eq!(job(JobConfig { relaxation: 1.5, ..config }), Err(ImgProcError::InvalidConfiguration));
+    assert_eq!(job(JobConfig { iterations: 23, ..config }), Err(ImgProcError::TooManyIterations));
+    let differ = call(4, |src, dst| restore(src, dst, &config, &mut JobWorkspace::default()));
+    assert_eq!(differ, Err(ImgProcError::DimensionMismatch));
+}
+
+/// What the C call returns with this floor and so much room. Only 11 may have changed anything, and that only the room.
+fn restored_in_c(floor: u16, scratch_len: usize, swings_len: usize) -> u8 {
+    let old = raw::Swing { width: 77.0, swing: 77 };
+    let (mut out, mut scratch, mut swings) = ([77; 12], vec![77; scratch_len], vec![old; swings_len]);
+    let (mut direction, mut blur_length, mut estimate) = (77, 77, 77.0);
+    let refusal = unsafe {
+        raw::smear_restore(
+            UNCLEAR.as_ptr(), 12, 4, 3, 4, out.as_mut_ptr(), 12, 4, 3, 4, 8, 24, floor, 3, 1.0, 0, 0,
+            scratch.as_mut_ptr(), scratch_len, swings.as_mut_ptr(), swings_len,
+            &mut direction, &mut blur_length, &mut estimate,
+        )
+    };
+    assert_eq!((out, direction, blur_length, estimate), ([77; 12], 77, 77, 77.0));
+    assert!(refusal == 11 || scratch == vec![77; scratch_len] && swings == vec![old; swings_len]);
+    refusal
+}
+
+#[test]
+fn room_and_floor_in_c() {
+    for (floor, answer) in [(0, 11), (160, 11), (161, 17), (256, 17), (257, 17), (300, 17)] {
+        assert_eq!(restored_in_c(floor, 12, 12), answer, "floor {floor}");
+        // too little room is refused before the floor
+        assert_eq!(restored_in_c(floor, 11, 12), 10);
+        assert_eq!(restored_in_c(floor, 12, 11), 10);
+    }
+}
+
 /// A restoration of a 5 by 1 picture: length 3, one iteration, relaxation 1.
 const RECORD: [u8; 32] =
     [5, 0, 1, 0, 0, 0, 0, 1, 3, 0, 1, 0, 0, 0, 1, 0, 0, 0, 0, 0, 0, 0, 0, 0, 0, 0, 0, 0, 0, 0, 0, 0];

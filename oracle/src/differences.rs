@@ -12,7 +12,7 @@ use qr_lab_imgproc::deblur::{van_cittert_line_into, LineBorderMode, VanCittertCo
 use qr_lab_imgproc::ImgProcError;
 use std::panic::{catch_unwind, set_hook, take_hook, AssertUnwindSafe};
 
-const ROWS: [(&str, fn()); 12] = [
+const ROWS: [(&str, fn()); 13] = [
     ("a picture of more than 1,024 pixels a side", sides),
     ("a layout that is refused", layout),
     ("more than 22 iterations", iterations),
@@ -25,6 +25,7 @@ const ROWS: [(&str, fn()); 12] = [
     ("the round sheet", round_sheet),
     ("the wrapping border", wrapping),
     ("pictures as PGM", pgm),
+    ("the floor of the confidence", floor),
 ];
 
 /// Ends with a panic where a row is not as docs/DIFFERENCES.md has it.
@@ -162,23 +163,27 @@ fn outside() {
     assert_eq!((answered(|| view.row(1).len()), answered(|| view_mut.row(1).len())), (None, None));
 }
 
+/// The whole job on a 1 by 1 picture of a 7: the refusal.
+fn job_of_one(minimum_confidence: u16) -> u8 {
+    let (mut out, mut room, mut swings) = ([0], [0; 3], [Swing::default()]);
+    let (mut direction, mut length, mut measured) = (0, 0, 0.0);
+    unsafe {
+        smear_restore(
+            [7].as_ptr(), 1, 1, 1, 1, out.as_mut_ptr(), 1, 1, 1, 1, 8, 24, minimum_confidence, 3, 1.0, 0, 0,
+            room.as_mut_ptr(), 3, swings.as_mut_ptr(), 1, &mut direction, &mut length, &mut measured,
+        )
+    }
+}
+
 fn added() {
-    let (mut estimate, mut room, mut out, mut direction) = ([0], [0; 3], [0], 0);
+    let (mut estimate, mut room, mut direction) = ([0], [0; 3], 0);
     let refusal = unsafe {
         smear_van_cittert_estimate(
             [7].as_ptr(), 1, 1, 1, 1, estimate.as_mut_ptr(), 1, 0.0, 3, 1, 1.0, 0, 0, room.as_mut_ptr(), 3,
             &mut direction,
         )
     };
-    assert_eq!((refusal, estimate), (0, [7]));
-    let (mut swings, mut length, mut measured) = ([Swing::default()], 0, 0.0);
-    let refusal = unsafe {
-        smear_restore(
-            [7].as_ptr(), 1, 1, 1, 1, out.as_mut_ptr(), 1, 1, 1, 1, 8, 24, 3, 1.0, 0, 0, room.as_mut_ptr(), 3,
-            swings.as_mut_ptr(), 1, &mut direction, &mut length, &mut measured,
-        )
-    };
-    assert_eq!(refusal, 11);
+    assert_eq!((refusal, estimate, job_of_one(0)), (0, [7], 11));
     let (mut text, mut written) = ([0; 16], 0);
     unsafe { smear_run([0; 32].as_ptr(), 32, [7].as_ptr(), 1, text.as_mut_ptr(), 16, &mut written) };
     assert_eq!(&text[..written], b"refused 13\n");
@@ -222,4 +227,9 @@ fn pgm() {
     };
     assert_eq!((write(11), write(12)), (5, 0));
     assert_eq!((&out, written), (b"P5\n1\n1\n255\n\x07", 12));
+}
+
+fn floor() {
+    let theirs = their_direction(&[7], 1);
+    assert_eq!((theirs.confidence, job_of_one(0), job_of_one(1)), (0.0, 11, 17));
 }

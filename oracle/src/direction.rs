@@ -11,7 +11,7 @@ use qr_lab_imgproc::blur;
 struct Direction(Picture);
 
 /// The tensor's sums over the interior pixels.
-fn sums(picture: &Picture) -> (i64, i64, i64) {
+pub fn sums(picture: &Picture) -> (i64, i64, i64) {
     let at = |x: usize, y: usize| i64::from(picture.data[y * picture.stride + x]);
     let (mut a, mut c, mut e) = (0, 0, 0);
     for y in 1..picture.height.saturating_sub(1) {

@@ -1,8 +1,10 @@
 //! The whole job against the Rust's three calls in a row, with document 01's rounding of the length between them. With
-//! the border that the Rust has not a plain restatement stands for the third; the others take no border.
+//! the border that the Rust has not a plain restatement stands for the third; the others take no border. A plain
+//! restatement stands for the floor of document 02 too (`confidence`), since the Rust has none.
 
 use crate::angle::number;
 use crate::case::{Case, Tally, Verdict};
+use crate::confidence::{crossed, floor, largest, reaches};
 use crate::direction::is_tie;
 use crate::ffi::{smear_restore, Swing};
 use crate::lent::{line_scratch, Lent};
@@ -18,6 +20,7 @@ struct Job {
     destination: Picture,
     minimum_transitions: usize,
     minimum_amplitude: u8,
+    minimum_confidence: u16,
     iterations: usize,
     relaxation: f64,
     border: u8,
@@ -92,6 +95,9 @@ impl Job {
         if self.scratch < line_scratch(s.width, s.height) || self.swings < pixels {
             return Err(10);
         }
+        if !reaches(s, self.minimum_confidence) {
+            return Err(17);
+        }
         let thresholds = LineLengthConfig {
             minimum_transitions: self.minimum_transitions,
             minimum_amplitude: self.minimum_amplitude,
@@ -122,7 +128,7 @@ impl Case for Job {
             smear_restore(
                 s.data.as_ptr(), s.data.len(), s.width, s.height, s.stride,
                 bytes.as_mut_ptr(), bytes.len(), d.width, d.height, d.stride,
-                self.minimum_transitions, self.minimum_amplitude,
+                self.minimum_transitions, self.minimum_amplitude, self.minimum_confidence,
                 self.iterations, self.relaxation, self.border, self.border_value,
                 scratch, scratch_len, swings, swings_len,
                 &mut direction, &mut blur_length, &mut estimate,
@@ -150,6 +156,9 @@ impl Case for Job {
 
     fn smaller(&self) -> Vec<Self> {
         let mut out = Vec::new();
+        if self.minimum_confidence > 0 {
+            out.push(Self { minimum_confidence: 0, ..self.clone() });
+        }
         for source in self.source.smaller() {
             let pixels = source.width * source.height;
             let destination = Picture { data: vec![0; pixels], stride: source.width, ..source };
@@ -160,20 +169,29 @@ impl Case for Job {
     }
 }
 
-fn case(random: &mut Random, width: usize, height: usize) -> Job {
-    let pixels = width * height;
-    let mut out = Job {
-        source: Picture::random(random, width, height),
+/// A job with any settings, in pictures and room as they must be: scratch is just enough.
+fn plain(random: &mut Random, source: Picture) -> Job {
+    let Picture { width, height, .. } = source;
+    Job {
         destination: Picture::random(random, width, height),
         minimum_transitions: [1, 1, 1, 2, 3, 8][random.below(6) as usize],
         minimum_amplitude: [1, 1, 24, 24, 24, 100][random.below(6) as usize],
+        minimum_confidence: floor(random, &source),
         iterations: 1 + random.below(5) as usize,
         relaxation: [1.0, 1.0, 0.5, 0.1, -0.0, random.unit()][random.below(6) as usize],
         border: border_number(random),
         border_value: random.below(256) as u8,
         scratch: line_scratch(width, height),
-        swings: pixels,
-    };
+        swings: width * height,
+        source,
+    }
+}
+
+/// The same, now and then with a picture, a setting or room that is refused or at a limit.
+fn case(random: &mut Random, source: Picture) -> Job {
+    let Picture { width, height, .. } = source;
+    let pixels = width * height;
+    let mut out = plain(random, source);
     match random.below(40) {
         0 => out.source = out.source.damaged(random),
         1 => out.destination = out.destination.damaged(random),
@@ -191,18 +209,44 @@ fn case(random: &mut Random, width: usize, height: usize) -> Job {
     out
 }
 
+/// Checks a job at the last floor that its picture reaches, and at the next.
+fn check_at_floor(tally: &mut Tally, job: Job) {
+    let reached = largest(&job.source);
+    for minimum_confidence in [reached, reached + 1] {
+        tally.check(Job { minimum_confidence, ..job.clone() });
+    }
+}
+
 pub fn compare(random: &mut Random, count: usize, tally: &mut Tally) {
     for _ in 0..count {
         let (width, height) = size(random);
         let (width, height) = if random.below(4) == 0 { (width, height) } else { (3 + width, 3 + height) };
-        tally.check(case(random, width, height));
+        let source = if random.below(8) == 0 {
+            let weaker = random.below(17) as usize;
+            crossed(random, weaker, width.next_multiple_of(2), height)
+        } else {
+            Picture::random(random, width, height)
+        };
+        tally.check(case(random, source));
     }
     for border in 0..4 {
-        let large = Job { relaxation: 1.0, border, ..case(random, 1024, 1024) };
-        tally.check(Job { minimum_transitions: 8, minimum_amplitude: 24, iterations: 3, ..large });
+        let source = Picture::random(random, 1024, 1024);
+        let large = Job { relaxation: 1.0, border, ..plain(random, source) };
+        check_at_floor(tally, Job { minimum_transitions: 8, minimum_amplitude: 24, iterations: 3, ..large });
+    }
+    // products of two words that are equal, and that a pixel of the first row, or any, keeps from being so; without a
+    // length the job ends at 11
+    for weaker in [0, 1, 5, 8, 12, 15] {
+        let equal = crossed(random, weaker, 1024, 1024);
+        for (place, change) in [(0, 0), (random.below(1024), 1), (random.below(1024 * 1024), 1)] {
+            let mut source = equal.clone();
+            source.data[place as usize] ^= change;
+            check_at_floor(tally, Job { minimum_transitions: 0, ..plain(random, source) });
+        }
     }
     // the longest lines of low and narrow ones
     for (width, height) in [(1024, 3), (3, 1024), (1024, 40), (40, 1024)] {
-        tally.check(Job { minimum_transitions: 1, minimum_amplitude: 1, ..case(random, width, height) });
+        let source = Picture::random(random, width, height);
+        tally.check(Job { minimum_transitions: 1, minimum_amplitude: 1, ..plain(random, source) });
     }
 }

@@ -1,12 +1,14 @@
 //! Compares the proved library with the Rust original: the same inputs, from a seeded generator, through the C
 //! interface. What the original has not is compared with a plain restatement: the sheet (`sheet`), PGM files (`pgm`),
-//! and the line filters with Wrap (`line`), which are counted by themselves. Ends with status 1 at the first
-//! difference, which it prints as small as it can make it; intended ones are shown first (`differences`).
+//! the floor of the whole job (`confidence`), and the line filters with Wrap (`line`), which are counted by themselves.
+//! Ends with status 1 at the first difference, which it prints as small as it can make it; intended ones are shown
+//! first (`differences`).
 
 mod angle;
 mod binomial;
 mod case;
 mod cases;
+mod confidence;
 mod differences;
 mod direction;
 #[path = "../../bindings/src/raw.rs"]

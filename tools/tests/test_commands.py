@@ -176,6 +176,38 @@ class Commands(unittest.TestCase):
         self.assertIn(reason, self.run_tool("restore", "large.pgm", "out.pgm", status=1))
         self.assertFalse(os.path.exists(os.path.join(self.folder, "out.pgm")))
 
+    def test_confidence(self):
+        # document 02, K6: the sample's confidence lies between 172 and 173 256ths
+        label = os.path.join(TOOLS, "..", "samples", "label.pgm")
+        for options in [[], "--iterations 1 --relaxation 0.3 --border constant --border-value 7".split()]:
+            said = self.run_tool("restore", label, "without.pgm", *options)
+            for floor in ["0", "1", "172"]:
+                same = self.run_tool("restore", label, "with.pgm", *options, "--confidence", floor)
+                self.assertEqual((same, self.file("with.pgm")), (said, self.file("without.pgm")))
+            for floor in ["173", "256"]:
+                refused = self.run_tool("restore", label, "out.pgm", *options, "--confidence", floor, status=1)
+                reason = f"the picture shows no clear direction (its confidence is below {floor}/256)"
+                self.assertEqual(refused, f"restore: {reason}: nothing was restored\n")
+        self.file("ramp.pgm", RAMP)
+        refused = self.run_tool("restore", "ramp.pgm", "out.pgm", "--confidence", "256", status=1)
+        self.assertIn("no smear was measured", refused)
+        self.assertFalse(os.path.exists(os.path.join(self.folder, "out.pgm")))
+
+    def test_confidence_out_of_place(self):
+        self.file("ramp.pgm", RAMP)
+        for options, reason in [
+            ("257", "--confidence is 0 to 256"),
+            ("-1", "--confidence is 0 to 256"),
+            ("0 --length 3", "--confidence has no meaning with --length: only the whole job measures a direction"),
+            ("8 --filter unsharp --length 3", "--confidence has no meaning with --filter unsharp"),
+            ("8 --filter binomial", "--confidence has no meaning with --filter binomial"),
+        ]:
+            said = self.run_tool("restore", "ramp.pgm", "out.pgm", "--confidence", *options.split(), status=1)
+            self.assertEqual(said, f"restore: {reason}\n")
+        # a record has no floor
+        made = ["record", "make", "--width", "5", "--height", "1"]
+        self.assertIn("unrecognized arguments", self.run_tool(*made, "--confidence", "8", status=2))
+
     def test_sample_label(self):
         said = self.run_tool(os.path.join("..", "samples", "make"), "--check")
         # as the README says

@@ -201,13 +201,34 @@ class Library(unittest.TestCase):
         with tempfile.TemporaryDirectory() as folder:
             archive, shared = os.path.join(folder, "smear.a"), os.path.join(folder, "made", "smear.so")
             shutil.copyfile(library.ARCHIVE, archive)
-            with mock.patch.multiple(library, ARCHIVE=archive, SHARED=shared):
+            none = os.path.join(folder, "none.h")
+            with mock.patch.multiple(library, HEADER=none, ARCHIVE=archive, SHARED=shared):
                 # also an older one
                 for time in [10**18, 10**18 - 5]:
                     os.utime(archive, ns=(time, time))
                     library.build()
                     self.assertEqual(os.stat(shared).st_mtime_ns, time)
             self.assertEqual(os.listdir(os.path.dirname(shared)), ["smear.so"])
+
+    def test_an_archive_older_than_the_header_is_built_anew(self):
+        commands = []
+
+        def run(*command):
+            commands.append(command[0])
+            if command[0] == "cc":
+                open(command[3], "wb").close()
+
+        with tempfile.TemporaryDirectory() as folder:
+            header, archive, shared = (os.path.join(folder, name) for name in ["smear.h", "smear.a", "smear.so"])
+            for path, time in [(header, 10**18), (archive, 10**18 - 5)]:
+                open(path, "wb").close()
+                os.utime(path, ns=(time, time))
+            with mock.patch.multiple(library, HEADER=header, ARCHIVE=archive, SHARED=shared, run=run):
+                library.build()
+                os.utime(archive, ns=(10**18, 10**18))
+                library.build()
+                library.build()
+        self.assertEqual(commands, ["rt", "cc", "cc"])
 
     def test_function_that_an_older_archive_has_not(self):
         with self.assertRaisesRegex(library.Failed, "has no smear_nothing"):

@@ -1,4 +1,4 @@
--- The parts of a job put together: its start (`start-refused`, `start-direction`, `not-refused`), its end
+-- The parts of a job put together: its start (`start-refused`, `start-direction`, `start-floor`), its end
 -- (`finish-asked`, `finish-done`, `finish-refused`), and the whole: refused at its start (`job-refused`), or with the
 -- length between start and end (`job-outcome`).
 use mathlib.Core.List.{List}
@@ -11,20 +11,23 @@ use lib.ListN.{length}
 use Rattle.numbers.specs.Scalar.{clampByte}
 use Rattle.numbers.specs.Written.{Painted}
 use Rattle.floats.specs.Factor.{maxRelaxation, within}
-use Rattle.image.specs.Call.{Gray8, gray8, Decision, accepts, refuses}
-use Rattle.image.specs.Refusal.{layoutRefusal, Laid}
+use Rattle.image.specs.Call.{Gray8, gray8, Decision, accepts, refuses, decided, numberOf}
+use Rattle.image.specs.Refusal.{firstRefusal, Laid}
 use Rattle.image.proofs.Call.{outcome-accepted, outcome-refused}
+use Rattle.image.proofs.Call.{decided-accepts, decided-none, number-decided, accepts-not-refuses}
+use Rattle.image.proofs.Chain.{first-own}
 use Rattle.image.proofs.Pair.{destination-laid}
 use Rattle.image.proofs.Refusal.{accepted}
 use Rattle.raster.specs.declared.direction.RasterDirection4.{RasterDirection4}
 use Rattle.blur.specs.Length.{lengthRefusal, lengthAlong, lengthDecision, lengthAnswer, LengthMeasured}
-use Rattle.tensor.specs.Tensor.{directionDecision, directionAnswer}
+use Rattle.tensor.specs.Confidence.{confidentDecision}
+use Rattle.tensor.specs.Tensor.{pictureSums, estimateOf, directionAnswer}
 use Rattle.blur.specs.declared.length.LengthAnswer.{LengthAnswer}
 use Rattle.blur.specs.declared.length.LineLength.{LineLength}
 use Rattle.swings.specs.declared.Swing.{Swing}
 use Rattle.tensor.specs.declared.direction.DirectionEstimate.{DirectionEstimate}
 use Rattle.tensor.specs.declared.direction.DirectionAnswer.the-variants as direction-answer
-use Rattle.tensor.proofs.Answer.{direction-accepted}
+use Rattle.tensor.proofs.Answer.{confident-decided, told-direction, told-refused}
 use Rattle.blur.proofs.ScanPlans.{refusal-none}
 use Rattle.line.specs.declared.kernel.LineKernel.{LineKernel}
 use Rattle.deblur.specs.Lines.{kernelEstimate, AlongAsked}
@@ -34,39 +37,62 @@ use Rattle.job.specs.declared.JobResult.{JobResult}
 use Rattle.job.specs.declared.JobAnswer.{JobAnswer}
 use Rattle.job.specs.declared.JobAnswer.the-variants.{Done, Refused}
 use Rattle.job.specs.declared.plan.JobStart.{JobStart}
-use Rattle.job.specs.Job.{Job, jobOf, layoutOf, jobRefusal, pictureDirection, jobDirection, jobLength, planLength}
+use Rattle.job.specs.Job.{Job, jobOf, layoutOf, jobRefusal, floorRefusal, startRefusal, pictureDirection}
+use Rattle.job.specs.Job.{jobDirection, jobLength, planLength}
 use Rattle.job.specs.Job.{plan, jobAnswer, jobKernel, jobWrites, Restored, Runnable, JobAccepted}
 use Rattle.job.specs.Parts.{JobStarts, lengthIn, Finished}
-use Rattle.job.proofs.Plans.{job-decided, job-accepted, plan-along, plan-early, plan-leaves}
+use Rattle.job.proofs.Plans.{job-decided, job-accepted, start-none, plan-along, plan-early, plan-leaves}
 
 -- ---- the start
 
 module _ (j : Job) (n : ℕ) (is : n ≡ jobRefusal j) where
   pub start-refused : (d : RasterDirection4) → (n ≡ 0 → ⊥)
       → JobStarts j (record { refusal = n; direction = d })
-  start-refused d some = record { refusal-is = is; direction-is = λ e. absurd (some (is ∙ e)) }
+  unfolding startRefusal
+  start-refused d some =
+      let own = first-own (jobRefusal j) (floorRefusal (j .source) (j .config)) (λ e. some (is ∙ e)) in
+      record { refusal-is = is ∙ sym own; direction-is = λ e. absurd (some (is ∙ sym own ∙ e)) }
 
   module _ (none : n ≡ 0) where
     abbrev s : Gray8
     s = j .source
 
-    layout-taken : layoutRefusal (length (s .bytes)) (s .width) (s .height) (s .stride) ≡ 0
-    layout-taken = accepted (job-accepted j (sym is ∙ none) .runnable .pictures .source)
+    abbrev floor : ℕ
+    floor = j .config .«minimum_confidence»
+
+    -- what the picture decides, behind a layout that is taken
+    decides : confidentDecision floor s
+        ≡ decided (floorRefusal s (j .config)) (estimateOf (s .width) (s .height) (pictureSums s))
+    decides =
+        confident-decided (s .bytes) (s .width) (s .height) (s .stride) floor
+        (accepted (job-accepted j (sym is ∙ none) .runnable .pictures .source))
+
+    starts-with : startRefusal j ≡ floorRefusal s (j .config)
+    unfolding startRefusal
+    starts-with = ap (λ (k : ℕ). firstRefusal k (floorRefusal s (j .config))) (sym is ∙ none)
 
     pub start-direction : (e : DirectionEstimate)
-        → directionAnswer (directionDecision (j .source)) ≡ direction-answer.Direction e
+        → directionAnswer (confidentDecision floor s) ≡ direction-answer.Direction e
         → JobStarts j (record { refusal = n; direction = e .direction })
     unfolding pictureDirection
     start-direction e given =
-        let taken = direction-accepted (s .bytes) (s .width) (s .height) (s .stride) layout-taken in
-        record { refusal-is = is; direction-is = λ _. cc }
+        let told = decided-accepts (floorRefusal s (j .config)) _ e (sym decides ∙ told-direction _ given) in
+        record {
+          refusal-is = none ∙ sym (starts-with ∙ told .0);
+          direction-is = λ _. ap (λ (found : DirectionEstimate). found .direction) (sym (told .1));
+        }
 
-    pub not-refused : (number : ℕ) → directionAnswer (directionDecision (j .source)) ≡ direction-answer.Refused number
-        → ⊥
-    not-refused number given =
-        let taken = direction-accepted (s .bytes) (s .width) (s .height) (s .stride) layout-taken in
-        let z : _≡_ {A = ℕ} 0 1 = cc in
-        omega arith
+    pub start-floor : (number : ℕ) (d : RasterDirection4)
+        → directionAnswer (confidentDecision floor s) ≡ direction-answer.Refused number
+        → JobStarts j (record { refusal = number; direction = d })
+    start-floor number d given =
+        let n = floorRefusal s (j .config) in
+        let told = sym decides ∙ told-refused _ given in
+        let is = starts-with ∙ sym (number-decided n _) ∙ ap numberOf told in
+        record {
+          refusal-is = sym is;
+          direction-is = λ e. absurd (accepts-not-refuses (sym (decided-none (sym starts-with ∙ e) _) ∙ told));
+        }
 
 -- ---- the end
 
@@ -141,7 +167,7 @@ module _ (src dst : Gray8) (config : JobConfig) (scratch : List ℤ) (swings : L
 
     module _ (none : start .refusal ≡ 0) where
       abbrev accepted-job : JobAccepted j
-      accepted-job = job-accepted j (sym (starts .refusal-is) ∙ none)
+      accepted-job = job-accepted j (start-none j (sym (starts .refusal-is) ∙ none) .0)
 
       -- what the end of the job asks
       pub job-runs : Runnable src (layoutOf dst) config (length scratch)
@@ -150,7 +176,7 @@ module _ (src dst : Gray8) (config : JobConfig) (scratch : List ℤ) (swings : L
       module _ (swings′ : List Swing) (measured : LengthAnswer)
           (m : LengthMeasured src (start .direction) (config .«minimum_transitions») (config .«minimum_amplitude»)
           swings swings′ measured) where
-        abbrev taken : jobRefusal j ≡ 0
+        abbrev taken : startRefusal j ≡ 0
         taken = sym (starts .refusal-is) ∙ none
 
         planned-is : planLength (src .width) (src .height) (start .direction) (lengthIn measured) ≡ plan j

@@ -7,7 +7,7 @@ use lib.Dec.{ltb}
 use lib.ListN.{length}
 use Rattle.numbers.proofs.Test.{or-false-intro, or-false-left, or-false-right}
 use Rattle.image.specs.Call.{Gray8, Decision, unless}
-use Rattle.image.specs.Refusal.{Laid}
+use Rattle.image.specs.Refusal.{firstRefusal, Laid}
 use Rattle.image.proofs.Pair.{laid-pair}
 use Rattle.deblur.specs.Before.{scratchBefore, AsBefore}
 use Rattle.deblur.specs.Refusal.{scratchNeeded, iteratedRefusal}
@@ -22,6 +22,8 @@ use Rattle.job.specs.Job.{
   jobOf,
   picturesRefusal,
   jobRefusal,
+  floorRefusal,
+  startRefusal,
   planLength,
   jobDirection,
   jobLength,
@@ -42,6 +44,9 @@ module _ (j : Job) where
   abbrev measured : Decision JobResult
   measured = planLength w h (jobDirection j) (jobLength j)
 
+  abbrev floor : ℕ
+  floor = floorRefusal (j .source) (j .config)
+
   abbrev was : Bool
   was = ltb (j .scratch-len) (scratchBefore w h)
 
@@ -52,15 +57,15 @@ module _ (j : Job) where
   few = ltb (j .swings-len) (w * h)
 
   pub plan-as-before : (jobAnswer (planBefore j) ≡ Refused 10 → ⊥) → plan j ≡ planBefore j
-  unfolding plan jobRefusal
+  unfolding plan startRefusal jobRefusal
   plan-as-before not-ten =
-      ap (λ (k : ℕ). unless k measured)
+      ap (λ (k : ℕ). unless (firstRefusal k floor) measured)
       (order-as-before (picturesRefusal (j .source) (j .destination))
       (iteratedRefusal (j .config .relaxation) (j .config .iterations)) (was || few) (is || few)
       (λ e short.
       let l : Laid (length (j .source .bytes)) w h (j .source .stride) = laid-pair e .source in
       or-false-intro (long-enough l (j .scratch-len) (or-false-left was few short)) (or-false-right was few short))
-      (λ e. not-ten (ap (λ (k : ℕ). jobAnswer (unless k measured)) e)))
+      (λ e. not-ten (ap (λ (k : ℕ). jobAnswer (unless (firstRefusal k floor) measured)) e)))
 
 pub restored-as-before : (src dst : Gray8) (config : JobConfig)
     → AsBefore lengths (Refused 10)

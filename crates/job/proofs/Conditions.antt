@@ -1,5 +1,6 @@
 -- The whole job is given each number in its condition and otherwise never (`job-exactly`): one of 1 to 10 exactly where
--- it is not accepted before anything is measured (`job-iff`), and 0 exactly where its length is taken too (`plan-iff`).
+-- it is not accepted before its picture is looked at (`job-iff`), and 0 exactly where its picture is confident and its
+-- length is taken too (`plan-iff`).
 use Prim.Native.Nat.{ℕ, _*_}
 use native.Mathlib.Omega.{arith}
 use mathlib.Core.Bool.{true}
@@ -29,12 +30,15 @@ use Rattle.deblur.specs.Refusal.{scratchNeeded, iteratedRefusal}
 use Rattle.deblur.proofs.Conditions.{iterated-matches, pair-ten}
 use Rattle.deblur.proofs.Refusals.{order-0, iterated-0}
 use Rattle.job.specs.declared.JobResult.{JobResult}
+use Rattle.job.specs.Floor.{planWithout}
 use Rattle.job.specs.Conditions.{Exceeds, measuredConditions, jobConditions, LengthFits, JobPlanned}
 use Rattle.job.specs.Job.{
   Job,
   lentShort,
   picturesRefusal,
   jobRefusal,
+  floorRefusal,
+  startRefusal,
   jobDirection,
   jobLength,
   planOdd,
@@ -42,7 +46,8 @@ use Rattle.job.specs.Job.{
   plan,
   JobAccepted,
 }
-use Rattle.job.proofs.Plans.{early-matches, early-numbered, job-accepted}
+use Rattle.job.proofs.Plans.{asked-matches, asked-numbered, early-matches, early-numbered, job-accepted}
+use Rattle.job.proofs.Plans.{start-none, floor-confident, floor-other}
 
 -- ---- 11 and 12
 
@@ -96,17 +101,26 @@ module _ (j : Job) where
   pub plan-ten : numberOf (plan j) ≡ 10
       → (picturesRefusal (j .source) (j .destination) ≡ 0)
       × (lentShort w h (j .scratch-len) (j .swings-len) ≡ true)
-  unfolding plan jobRefusal
+  unfolding plan startRefusal jobRefusal
   plan-ten e =
       let src = j .source in
       let dst = j .destination in
       let next = planLength w h (jobDirection j) (jobLength j) in
       let late = not-given (measured-matches w h (jobDirection j) (jobLength j)) 10 (tt, (tt, tt)) in
+      let start = first-other (startRefusal j) (numberOf next) late (sym (number-unless (startRefusal j) next) ∙ e) in
       pair-ten (length (src .bytes)) w h (src .stride) (dst .len) (dst .width) (dst .height) (dst .stride)
       (iteratedRefusal (j .config .relaxation) (j .config .iterations))
       (lentShort w h (j .scratch-len) (j .swings-len))
       (not-given (iterated-matches (j .config .relaxation) (j .config .iterations)) 10 (tt, (tt, (tt, tt))))
-      (first-other (jobRefusal j) (numberOf next) late (sym (number-unless (jobRefusal j) next) ∙ e))
+      (first-other (jobRefusal j) (floorRefusal src (j .config)) (floor-other j) start)
+
+  -- 17 is for the floor alone
+  pub without-17 : numberOf (planWithout j) ≡ 17 → ⊥
+  without-17 =
+      not-given
+      (match-unless-decided (asked-matches j) (asked-numbered j) (planLength w h (jobDirection j) (jobLength j))
+      (measured-matches w h (jobDirection j) (jobLength j)))
+      17 (tt, (tt, (tt, (tt, (tt, (tt, (tt, (tt, (tt, (tt, (tt, (tt, tt))))))))))))
 
   accepted-job : JobAccepted j → jobRefusal j ≡ 0
   unfolding jobRefusal
@@ -121,13 +135,20 @@ module _ (j : Job) where
   job-iff = (job-accepted j, accepted-job)
 
   pub plan-iff : (numberOf (plan j) ≡ 0) ↔ JobPlanned j
-  unfolding plan
+  unfolding plan startRefusal
   plan-iff =
       let next = planLength w h (jobDirection j) (jobLength j) in
-      let number = number-unless (jobRefusal j) next in
+      let number = number-unless (startRefusal j) next in
       let taken = length-iff w h (jobDirection j) (jobLength j) in (
         λ e.
-            let a = first-zero (jobRefusal j) (numberOf next) (sym number ∙ e) in
-            record { accepted = job-accepted j (a .0); measured = taken .0 (a .1) },
-        λ k. number ∙ ap₂ firstRefusal (accepted-job (k .accepted)) (taken .1 (k .measured)),
+            let a = first-zero (startRefusal j) (numberOf next) (sym number ∙ e) in
+            let b = start-none j (a .0) in
+            record {
+              accepted = job-accepted j (b .0);
+              confident = floor-confident j .0 (b .1);
+              measured = taken .0 (a .1);
+            },
+        λ k.
+            let start = ap₂ firstRefusal (accepted-job (k .accepted)) (floor-confident j .1 (k .confident)) in
+            number ∙ ap₂ firstRefusal start (taken .1 (k .measured)),
       )

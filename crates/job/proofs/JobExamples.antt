@@ -18,9 +18,11 @@ use Rattle.raster.specs.declared.direction.RasterDirection4.the-variants.{Verti
 use Rattle.swings.specs.Rise.{levelOf, crossedAt, placeAt, crossingOf, riseBetween, riseOf}
 use Rattle.swings.specs.Runs.{runsFrom, runsAfter}
 use Rattle.swings.specs.Swings.{swingsOf, lineSwings, swingsFrom}
+use Rattle.tensor.specs.Confidence.{passes}
 use Rattle.tensor.specs.Tensor.{gradientX, gradientY, rowSum, interiorSum, tensorSums, tensorDirection, estimateOf}
 use Rattle.job.specs.declared.JobResult.{JobResult}
-use Rattle.job.specs.Job.{layout, Job, jobRefusal, pictureDirection, jobDirection, plan}
+use Rattle.job.specs.Floor.{withFloor}
+use Rattle.job.specs.Job.{layout, Job, jobRefusal, startRefusal, pictureDirection, jobDirection, plan}
 
 -- a picture without padding into one like it, one iteration of relaxation 1, with thresholds 3 and 24 and the scratch
 -- that is asked
@@ -33,6 +35,7 @@ tight source width height =
           record {
             «minimum_transitions» = 3;
             «minimum_amplitude» = 24;
+            «minimum_confidence» = 0;
             iterations = 1;
             relaxation = ofBits binary64 0x3ff0_0000_0000_0000;
             border = Replicate;
@@ -53,10 +56,22 @@ unfolding ramp row pictureDirection estimateOf tensorSums tensorDirection interi
 ramp-vertical = refl
 
 ramp-refused : plan ramp ≡ refuses 11
-unfolding ramp row plan jobRefusal pairRefusal layoutRefusal factorRefusal iterationsRefusal within pictureDirection
-    estimateOf tensorSums tensorDirection interiorSum rowSum gradientX gradientY total startCol startRow swingsFrom
-    lineSwings swingsOf runsAfter runsFrom riseOf ofBits
+unfolding ramp row plan startRefusal passes jobRefusal pairRefusal layoutRefusal factorRefusal iterationsRefusal within
+    pictureDirection estimateOf tensorSums tensorDirection interiorSum rowSum gradientX gradientY total startCol
+    startRow swingsFrom lineSwings swingsOf runsAfter runsFrom riseOf ofBits
 ramp-refused = refl
+
+-- document 02, K6: it has one direction alone, so that the highest floor goes on to 11; no floor is above that
+ramp-256 : plan (withFloor 256 ramp) ≡ refuses 11
+unfolding ramp row plan startRefusal passes jobRefusal pairRefusal layoutRefusal factorRefusal iterationsRefusal within
+    pictureDirection estimateOf tensorSums tensorDirection interiorSum rowSum gradientX gradientY total startCol
+    startRow swingsFrom lineSwings swingsOf runsAfter runsFrom riseOf ofBits
+ramp-256 = refl
+
+ramp-257 : plan (withFloor 257 ramp) ≡ refuses 17
+unfolding ramp row plan startRefusal passes jobRefusal pairRefusal layoutRefusal factorRefusal iterationsRefusal within
+    estimateOf tensorSums tensorDirection interiorSum rowSum gradientX gradientY total ofBits
+ramp-257 = refl
 
 -- 3 by 10: from row to row as the ramp by 10, from column to column by 100
 unfoldable pub columns : Job
@@ -81,8 +96,16 @@ unfoldable pub vertical-5 : JobResult
 vertical-5 = record { direction = Vertical; «blur_length» = 5; estimate = ofBits binary64 0x4014_0000_0000_0000 }
 
 pub runs : (plan columns ≡ accepts vertical-5) × (plan inverted ≡ accepts vertical-5)
-unfolding columns inverted vertical-5 plan jobRefusal pairRefusal layoutRefusal factorRefusal iterationsRefusal within
-    pictureDirection estimateOf tensorSums tensorDirection interiorSum rowSum gradientX gradientY total startCol
-    startRow swingsFrom lineSwings swingsOf runsAfter runsFrom riseOf levelOf crossedAt placeAt crossingOf riseBetween
-    oddOf oddLength ofBits ofInt add sub mul div le lt eq
+unfolding columns inverted vertical-5 plan startRefusal passes jobRefusal pairRefusal layoutRefusal factorRefusal
+    iterationsRefusal within pictureDirection estimateOf tensorSums tensorDirection interiorSum rowSum gradientX
+    gradientY total startCol startRow swingsFrom lineSwings swingsOf runsAfter runsFrom riseOf levelOf crossedAt placeAt
+    crossingOf riseBetween oddOf oddLength ofBits ofInt add sub mul div le lt eq
 runs = (refl, refl)
+
+-- A, C, E = 5120000, 320000, 28800: (512 − 255)² × (D² + 4C²) ≥ 255² × (A + E)², and not for 256
+floors : (plan (withFloor 255 columns) ≡ accepts vertical-5) × (plan (withFloor 256 columns) ≡ refuses 17)
+unfolding columns vertical-5 plan startRefusal passes jobRefusal pairRefusal layoutRefusal factorRefusal
+    iterationsRefusal within pictureDirection estimateOf tensorSums tensorDirection interiorSum rowSum gradientX
+    gradientY total startCol startRow swingsFrom lineSwings swingsOf runsAfter runsFrom riseOf levelOf crossedAt placeAt
+    crossingOf riseBetween oddOf oddLength ofBits ofInt add sub mul div le lt eq
+floors = (refl, refl)

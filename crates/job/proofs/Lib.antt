@@ -3,6 +3,7 @@ pub mod Before
 pub mod Conditions
 pub mod Determined
 pub mod Examples
+pub mod Floor
 pub mod JobExamples
 pub mod NearPicture
 pub mod Plans

@@ -1,8 +1,9 @@
 -- What a plan says: the refusals in their conditions, and that an accepted job (`job-accepted`) with a result has a
--- length that the restoration takes (`plan-length`) and an estimate that is positive and finite (`plan-estimate`).
+-- confidence that reaches its floor (`plan-confident`), a length that the restoration takes (`plan-length`) and an
+-- estimate that is positive and finite (`plan-estimate`).
 use mathlib.Core.Bool.{Bool, true, false, cond}
 use mathlib.Core.List.{List, _++_}
-use mathlib.Core.Logic.{_⊎_, inl, inr, ⊎-elim}
+use mathlib.Core.Logic.{_⊎_, inl, inr, ⊎-elim, _↔_}
 use mathlib.Core.Path.{_≡_, refl, sym, ap, _∙_, subst}
 use Prim.Native.Nat.{ℕ, _+_, _*_, _%_, _^_, _≤_, _<_}
 use native.Mathlib.Omega.{arith}
@@ -21,10 +22,13 @@ use Rattle.image.specs.Call.{Gray8, Decision, accepts, refuses, unless, KeepsSc
 use Rattle.image.specs.Conditions.{Refusal, FirstMatch, pairConditions}
 use Rattle.image.specs.Refusal.{firstRefusal}
 use Rattle.image.proofs.Call.{unless-refuses, unless-accepts}
+use Rattle.image.proofs.Chain.{first-zero}
 use Rattle.image.proofs.Conditions.{Numbered, match-none, match-test, not-given, match-then}
 use Rattle.image.proofs.Conditions.{pair-matches, pair-numbered}
 use Rattle.image.proofs.Pair.{laid-pair}
 use Rattle.raster.specs.declared.direction.RasterDirection4.{RasterDirection4}
+use Rattle.tensor.specs.Tensor.{pictureSums}
+use Rattle.tensor.proofs.Conditions.{confidence-matches, confidence-iff}
 use Rattle.blur.specs.declared.length.LengthAnswer.{LengthAnswer}
 use Rattle.blur.specs.declared.length.LengthAnswer.the-variants as answered
 use Rattle.blur.specs.declared.length.LineLength.{LineLength}
@@ -45,13 +49,15 @@ use Rattle.deblur.proofs.Refusals.{iterated-taken, order-pictures, order-lent, 
 use Rattle.job.specs.declared.JobResult.{JobResult}
 use Rattle.job.specs.declared.JobAnswer.{JobAnswer}
 use Rattle.job.specs.declared.JobAnswer.the-variants.{Done, Refused}
-use Rattle.job.specs.Conditions.{lentConditions}
+use Rattle.job.specs.Conditions.{ConfidentJob, lentConditions, floorConditions}
 use Rattle.job.specs.Job.{
   Layout,
   Job,
   lentShort,
   picturesRefusal,
   jobRefusal,
+  floorRefusal,
+  startRefusal,
   planOdd,
   planLength,
   plan,
@@ -113,7 +119,7 @@ module _ (j : Job) where
         swings-least = ltb-false (j .swings-len) (w * h) (or-false-right scratch swings (a .2));
       }
 
--- ---- they are 1 to 10
+-- ---- they are 1 to 10, and 17
 
 module _ (j : Job) where
   abbrev src : Gray8
@@ -122,17 +128,17 @@ module _ (j : Job) where
   abbrev dst : Layout
   dst = j .destination
 
-  -- what is refused before anything is measured
-  abbrev pub early : List Refusal
-  early =
+  -- what is refused before the picture is looked at
+  abbrev pub asked : List Refusal
+  asked =
       pairConditions (length (src .bytes)) (src .width) (src .height) (src .stride) (dst .len) (dst .width)
       (dst .height) (dst .stride)
       ++ (iteratedConditions (j .config .relaxation) (j .config .iterations)
       ++ lentConditions (src .width) (src .height) (j .scratch-len) (j .swings-len))
 
-  pub early-matches : FirstMatch early (jobRefusal j)
+  pub asked-matches : FirstMatch asked (jobRefusal j)
   unfolding jobRefusal
-  early-matches =
+  asked-matches =
       let len = length (src .bytes) in
       let w = src .width in
       let h = src .height in
@@ -142,15 +148,42 @@ module _ (j : Job) where
       (match-test 10 match-none
       (or-iff _ _ (ltb-iff (j .scratch-len) (scratchNeeded w h)) (ltb-iff (j .swings-len) (w * h)))))
 
-  pub early-numbered : Numbered early
-  early-numbered = (tt, (tt, (tt, (tt, (tt, (tt, (tt, (tt, (tt, (tt, tt))))))))))
+  pub asked-numbered : Numbered asked
+  asked-numbered = (tt, (tt, (tt, (tt, (tt, (tt, (tt, (tt, (tt, (tt, tt))))))))))
 
-  early-keeps : KeepsScratch (jobRefusal j)
+  -- .. and before anything is measured along lines
+  abbrev pub early : List Refusal
+  early = asked ++ floorConditions src (j .config)
+
+  abbrev floor : ℕ
+  floor = j .config .«minimum_confidence»
+
+  floor-matches : FirstMatch (floorConditions src (j .config)) (floorRefusal src (j .config))
+  floor-matches = confidence-matches floor (src .width) (src .height) (pictureSums src)
+
+  pub early-matches : FirstMatch early (startRefusal j)
+  unfolding startRefusal
+  early-matches = match-then asked-matches asked-numbered floor-matches
+
+  pub early-numbered : Numbered early
+  early-numbered = (tt, (tt, (tt, (tt, (tt, (tt, (tt, (tt, (tt, (tt, (tt, tt)))))))))))
+
+  early-keeps : KeepsScratch (startRefusal j)
   early-keeps =
       record {
-        not-11 = not-given early-matches 11 (tt, (tt, (tt, (tt, (tt, (tt, (tt, (tt, (tt, (tt, tt))))))))));
-        not-12 = not-given early-matches 12 (tt, (tt, (tt, (tt, (tt, (tt, (tt, (tt, (tt, (tt, tt))))))))));
+        not-11 = not-given early-matches 11 (tt, (tt, (tt, (tt, (tt, (tt, (tt, (tt, (tt, (tt, (tt, tt)))))))))));
+        not-12 = not-given early-matches 12 (tt, (tt, (tt, (tt, (tt, (tt, (tt, (tt, (tt, (tt, (tt, tt)))))))))));
       }
+
+  pub floor-other : floorRefusal src (j .config) ≡ 10 → ⊥
+  floor-other = not-given floor-matches 10 (tt, tt)
+
+  pub floor-confident : (floorRefusal src (j .config) ≡ 0) ↔ ConfidentJob src (j .config)
+  floor-confident = confidence-iff floor (src .width) (src .height) (pictureSums src)
+
+  pub start-none : startRefusal j ≡ 0 → (jobRefusal j ≡ 0) × (floorRefusal src (j .config) ≡ 0)
+  unfolding startRefusal
+  start-none = first-zero (jobRefusal j) (floorRefusal src (j .config))
 
 -- ---- the length of a plan
 
@@ -255,31 +288,35 @@ module _ (width height : ℕ) (d : RasterDirection4) (number : ℕ) where
   late-length (Found estimate) e = inr (late-odd estimate (oddLength estimate) e)
   late-length Nothing e = let same : 11 ≡ number = cc in inl (sym same)
 
-pub plan-late : (j : Job) {number : ℕ} → jobRefusal j ≡ 0 → plan j ≡ refuses number → (number ≡ 11) ⊎ (number ≡ 12)
+pub plan-late : (j : Job) {number : ℕ} → startRefusal j ≡ 0 → plan j ≡ refuses number → (number ≡ 11) ⊎ (number ≡ 12)
 unfolding plan
 plan-late j {number} none e =
     let next = planLength (j .source .width) (j .source .height) (jobDirection j) (jobLength j) in
     late-length (j .source .width) (j .source .height) (jobDirection j) number (jobLength j)
     (sym (ap (λ (n : ℕ). unless n next) none) ∙ e)
 
--- so that scratch is kept where one of 1 to 10 is given, and only there
-pub plan-leaves : (j : Job) {number : ℕ} → plan j ≡ refuses number → KeepsScratch number → jobRefusal j ≡ 0 → ⊥
+-- so that scratch is kept where one of 1 to 10 or 17 is given, and only there
+pub plan-leaves : (j : Job) {number : ℕ} → plan j ≡ refuses number → KeepsScratch number → startRefusal j ≡ 0 → ⊥
 plan-leaves j e leaves none = ⊎-elim (leaves .not-11) (leaves .not-12) (plan-late j none e)
 
-pub plan-early : (j : Job) → (jobRefusal j ≡ 0 → ⊥) → (plan j ≡ refuses (jobRefusal j)) × KeepsScratch (jobRefusal j)
+pub plan-early : (j : Job) → (startRefusal j ≡ 0 → ⊥)
+    → (plan j ≡ refuses (startRefusal j)) × KeepsScratch (startRefusal j)
 unfolding plan
-plan-early j some = (unless-refuses (jobRefusal j) _ some, early-keeps j)
+plan-early j some = (unless-refuses (startRefusal j) _ some, early-keeps j)
 
 -- ---- an accepted plan
 
 module _ (j : Job) {result : JobResult} (e : plan j ≡ accepts result) where
-  plan-done : (jobRefusal j ≡ 0) × Measured (j .source .width) (j .source .height) (jobLength j) result
+  plan-done : (startRefusal j ≡ 0) × Measured (j .source .width) (j .source .height) (jobLength j) result
   unfolding plan
   plan-done =
-      plan-from-done (j .source .width) (j .source .height) (jobDirection j) (jobRefusal j) (jobLength j) result e
+      plan-from-done (j .source .width) (j .source .height) (jobDirection j) (startRefusal j) (jobLength j) result e
 
   pub plan-accepted : JobAccepted j
-  plan-accepted = job-accepted j (plan-done .0)
+  plan-accepted = job-accepted j (start-none j (plan-done .0) .0)
+
+  pub plan-confident : ConfidentJob (j .source) (j .config)
+  plan-confident = floor-confident j .0 (start-none j (plan-done .0) .1)
 
   pub plan-length : LengthTaken (j .source .width) (j .source .height) (result .«blur_length»)
   plan-length = plan-done .1 .taken

@@ -13,7 +13,7 @@ use Rattle.image.proofs.Pair.{destination-laid}
 use Rattle.image.proofs.Same.{pair-same, ends-alike}
 use Rattle.raster.specs.declared.direction.RasterDirection4.{RasterDirection4}
 use Rattle.tensor.specs.declared.direction.DirectionEstimate.{DirectionEstimate}
-use Rattle.tensor.proofs.Same.{found-same}
+use Rattle.tensor.proofs.Same.{sums-same, found-same}
 use Rattle.swings.specs.declared.Swing.{Swing}
 use Rattle.blur.specs.Length.{lengthAlong}
 use Rattle.blur.proofs.SameLength.{along-same}
@@ -27,6 +27,7 @@ use Rattle.job.specs.Job.{
   layoutOf,
   jobOf,
   jobRefusal,
+  startRefusal,
   pictureDirection,
   jobLength,
   plan,
@@ -47,12 +48,13 @@ module _ {a b : Gray8} (same : SamePicture a b) where
   direction-same = ap (λ (found : DirectionEstimate). found .direction) (found-same same)
 
   module _ (dst : Layout) (config : JobConfig) (scratchLen swingsLen : ℕ) where
-    refusal-same : jobRefusal (jobOf a dst config scratchLen swingsLen)
-        ≡ jobRefusal (jobOf b dst config scratchLen swingsLen)
-    unfolding jobRefusal
+    refusal-same : startRefusal (jobOf a dst config scratchLen swingsLen)
+        ≡ startRefusal (jobOf b dst config scratchLen swingsLen)
+    unfolding startRefusal jobRefusal
     refusal-same =
         rw (
           pair-same same (dst .len) (dst .width) (dst .height) (dst .stride),
+          sums-same same,
           same .same-width,
           same .same-height,
         )

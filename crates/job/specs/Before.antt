@@ -7,6 +7,7 @@ use lib.Dec.{ltb}
 use lib.IntN.{ℤ}
 use lib.ListN.{length}
 use Rattle.image.specs.Call.{Gray8, Decision, unless, Outcome}
+use Rattle.image.specs.Refusal.{firstRefusal}
 use Rattle.swings.specs.declared.Swing.{Swing}
 use Rattle.deblur.specs.Before.{scratchBefore}
 use Rattle.deblur.specs.Refusal.{iteratedRefusal, inOrder}
@@ -18,6 +19,7 @@ use Rattle.job.specs.Job.{
   Job,
   jobOf,
   picturesRefusal,
+  floorRefusal,
   planLength,
   jobDirection,
   jobLength,
@@ -34,7 +36,8 @@ jobRefusalBefore j =
 
 abbrev pub planBefore : Job → Decision JobResult
 planBefore j =
-    unless (jobRefusalBefore j) (planLength (j .source .width) (j .source .height) (jobDirection j) (jobLength j))
+    unless (firstRefusal (jobRefusalBefore j) (floorRefusal (j .source) (j .config)))
+    (planLength (j .source .width) (j .source .height) (jobDirection j) (jobLength j))
 
 abbrev pub RestoredBefore : Gray8 → Gray8 → List ℕ → JobConfig → List ℤ → List ℤ → List Swing
     → List Swing → JobAnswer → Type 0

@@ -1,5 +1,6 @@
--- Document 01, "Refusals, first match wins", for the whole job: each number with its condition, in the document's
--- order. What is accepted: before the length is measured `Job: JobAccepted`, and in all `JobPlanned`.
+-- Document 01, "Refusals, first match wins", for the whole job, with document 02's 17: each number with its condition,
+-- in the documents' order. What is accepted: before the picture is looked at `Job: JobAccepted`, and in all
+-- `JobPlanned`.
 use Prim.Native.Nat.{ℕ, _*_, _<_}
 use mathlib.Core.List.{List, [], _∷_, _++_}
 use mathlib.Core.Logic.{_⊎_}
@@ -8,12 +9,16 @@ use lib.ListN.{length}
 use Rattle.floats.specs.Odd.{oddLength}
 use Rattle.floats.specs.declared.OddLength.{OddLength}
 use Rattle.floats.specs.declared.OddLength.the-variants.{Length, Beyond}
+use Rattle.image.specs.Call.{Gray8}
 use Rattle.image.specs.Conditions.{Refusal, given, pairConditions}
+use Rattle.tensor.specs.Confidence.{Confident, confidenceConditions}
+use Rattle.tensor.specs.Tensor.{pictureSums}
 use Rattle.line.specs.Kernel.{maxBlurLength}
 use Rattle.blur.specs.declared.length.LineLength.{LineLength}
 use Rattle.blur.specs.declared.length.LineLength.the-variants.{Found, Nothing}
 use Rattle.deblur.specs.Conditions.{iteratedConditions}
 use Rattle.deblur.specs.Refusal.{scratchNeeded}
+use Rattle.job.specs.declared.JobConfig.{JobConfig}
 use Rattle.job.specs.Job.{Job, jobLength, JobAccepted}
 
 -- a rounded length above the limit; `Beyond` is above every limit
@@ -25,6 +30,16 @@ Exceeds limit Beyond = Unit {0}
 abbrev pub TooLong : ℕ → LineLength → Type 0
 TooLong limit (Found estimate) = Exceeds limit (oddLength estimate)
 TooLong limit Nothing = ⊥
+
+-- document 02, K6: "goes on only where the tensor's confidence .. is at least c / 256"
+abbrev pub ConfidentJob : Gray8 → JobConfig → Type 0
+ConfidentJob src config =
+    let s = pictureSums src in
+    Confident (config .«minimum_confidence») (src .width) (src .height) (s .a) (s .c) (s .e)
+
+abbrev pub floorConditions : Gray8 → JobConfig → List Refusal
+floorConditions src config =
+    confidenceConditions (config .«minimum_confidence») (src .width) (src .height) (pictureSums src)
 
 -- 11 and 12, of the length answer
 abbrev pub measuredConditions : ℕ → ℕ → LineLength → List Refusal
@@ -48,9 +63,11 @@ jobConditions j =
     (dst .stride)
     ++ (iteratedConditions (j .config .relaxation) (j .config .iterations)
     ++ (lentConditions (src .width) (src .height) (j .scratch-len) (j .swings-len)
-    ++ measuredConditions (src .width) (src .height) (jobLength j)))
+    ++ (floorConditions src (j .config)
+    ++ measuredConditions (src .width) (src .height) (jobLength j))))
 
 -- `plan` accepts exactly there.
 pub record JobPlanned (j : Job) : Type 0 where
   pub accepted : JobAccepted j
+  pub confident : ConfidentJob (j .source) (j .config)
   pub measured : LengthFits (j .source .width) (j .source .height) (jobLength j)

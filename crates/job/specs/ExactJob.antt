@@ -1,5 +1,6 @@
 -- The exact run of the whole job (document 01, "Whole job and exact run"): "same arguments as the whole job,
--- destination layout and scratch lengths included, and same rules for refusals, direction, length and border".
+-- destination layout and scratch lengths included, and same rules for refusals, direction, length and border". Document
+-- 02, K6: "The exact run obeys the same floor."
 use Prim.Native.Nat.{ℕ}
 use Rattle.floats.specs.Factor.{roundedQ16}
 use Rattle.image.specs.Picture.{pixel}

@@ -17,11 +17,12 @@ use Rattle.floats.specs.declared.OddLength.{OddLength}
 use Rattle.floats.specs.declared.OddLength.the-variants.{Length, Beyond}
 use Rattle.image.specs.Call.{Gray8, Decision, accepts, refuses, unless, Outcome}
 use Rattle.image.specs.Picture.{pixel}
-use Rattle.image.specs.Refusal.{pairRefusal, LaidPair}
+use Rattle.image.specs.Refusal.{firstRefusal, pairRefusal, LaidPair}
 use Rattle.raster.specs.declared.border.LineBorderMode.the-variants.{Replicate}
 use Rattle.raster.specs.declared.direction.RasterDirection4.{RasterDirection4}
 use Rattle.blur.specs.Length.{defaults, lengthAlong}
-use Rattle.tensor.specs.Tensor.{tensorSums, estimateOf}
+use Rattle.tensor.specs.Confidence.{confidenceRefusal}
+use Rattle.tensor.specs.Tensor.{pictureSums, estimateOf}
 use Rattle.blur.specs.declared.length.LineLength.{LineLength}
 use Rattle.blur.specs.declared.length.LineLength.the-variants.{Found, Nothing}
 use Rattle.swings.specs.declared.Swing.{Swing}
@@ -67,12 +68,13 @@ jobOf src dst config scratchLen swingsLen =
     record { source = src; destination = dst; config = config; scratch-len = scratchLen; swings-len = swingsLen }
 
 -- "Whole-job settings are thresholds, iterations, relaxation and border." The defaults are those of the length and of
--- the restoration.
+-- the restoration. Document 02, K6: a floor c too; c = 0 leaves nothing out.
 unfoldable pub jobDefault : JobConfig
 jobDefault =
     record {
       «minimum_transitions» = defaults .«minimum_transitions»;
       «minimum_amplitude» = defaults .«minimum_amplitude»;
+      «minimum_confidence» = 0;
       iterations = defaultIterations;
       relaxation = defaultRelaxation;
       border = Replicate;
@@ -97,13 +99,20 @@ jobRefusal j =
     (iteratedRefusal (j .config .relaxation) (j .config .iterations))
     (lentShort (j .source .width) (j .source .height) (j .scratch-len) (j .swings-len))
 
+-- document 02, K6: 17 the confidence of the picture's direction is below the floor, or the floor is above 256
+abbrev pub floorRefusal : Gray8 → JobConfig → ℕ
+floorRefusal src config =
+    confidenceRefusal (config .«minimum_confidence») (src .width) (src .height) (pictureSums src)
+
+-- what is refused before anything is measured along lines: 17 stands "between 10 and 11"
+unfoldable pub startRefusal : Job → ℕ
+startRefusal j = firstRefusal (jobRefusal j) (floorRefusal (j .source) (j .config))
+
 -- ---- the plan: what a job comes to
 
 -- "Direction from the picture"
 unfoldable pub pictureDirection : Gray8 → RasterDirection4
-pictureDirection src =
-    estimateOf (src .width) (src .height)
-    (tensorSums (pixel (src .bytes) (src .stride)) (src .width) (src .height)) .direction
+pictureDirection src = estimateOf (src .width) (src .height) (pictureSums src) .direction
 
 -- ".. rounded to the smallest odd whole number that is at least 3 and at least the estimate"; 12 it exceeds
 -- 2 × max(width, height) + 1
@@ -128,7 +137,7 @@ jobLength j =
     (j .config .«minimum_transitions») (j .config .«minimum_amplitude»)
 
 unfoldable pub plan : Job → Decision JobResult
-plan j = unless (jobRefusal j) (planLength (j .source .width) (j .source .height) (jobDirection j) (jobLength j))
+plan j = unless (startRefusal j) (planLength (j .source .width) (j .source .height) (jobDirection j) (jobLength j))
 
 abbrev pub jobAnswer : Decision JobResult → JobAnswer
 jobAnswer (accepts result) = Done result

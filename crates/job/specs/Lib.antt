@@ -3,6 +3,7 @@ pub mod Exact
 pub mod Job
 pub mod Parts
 pub mod Conditions
+pub mod Floor
 pub mod Before
 pub mod ExactJob
 pub mod Demands

@@ -5,6 +5,7 @@ use mathlib.Core.Path.{_≡_}
 use lib.IntN.{ℤ}
 use Rattle.image.specs.Call.{Gray8, Outcome}
 use Rattle.raster.specs.declared.direction.RasterDirection4.{RasterDirection4}
+use Rattle.raster.specs.declared.direction.RasterDirection4.the-variants.{Horizontal}
 use Rattle.blur.specs.declared.length.LengthAnswer.{LengthAnswer}
 use Rattle.blur.specs.declared.length.LengthAnswer.the-variants as answer
 use Rattle.blur.specs.declared.length.LineLength.{LineLength}
@@ -12,12 +13,16 @@ use Rattle.blur.specs.declared.length.LineLength.the-variants.{Nothing}
 use Rattle.job.specs.declared.JobConfig.{JobConfig}
 use Rattle.job.specs.declared.JobAnswer.{JobAnswer}
 use Rattle.job.specs.declared.plan.JobStart.{JobStart}
-use Rattle.job.specs.Job.{Job, jobRefusal, jobDirection, planLength, jobAnswer, jobWrites}
+use Rattle.job.specs.Job.{Job, startRefusal, jobDirection, planLength, jobAnswer, jobWrites}
 
 -- the refusal of a job, and the direction of one that is not refused
 pub record JobStarts (j : Job) (start : JobStart) : Type 0 where
-  pub refusal-is : start .refusal ≡ jobRefusal j
-  pub direction-is : jobRefusal j ≡ 0 → start .direction ≡ jobDirection j
+  pub refusal-is : start .refusal ≡ startRefusal j
+  pub direction-is : startRefusal j ≡ 0 → start .direction ≡ jobDirection j
+
+-- what a refused job starts with; its direction is not read
+abbrev pub refusedStart : ℕ → JobStart
+refusedStart number = record { refusal = number; direction = Horizontal }
 
 -- the length of an answer; a refused one has none
 abbrev pub lengthIn : LengthAnswer → LineLength

@@ -15,12 +15,15 @@ use swings::Swing;
 mod finish;
 mod plan;
 
-// Settings of the whole job: thresholds of the length, and those of the restoration that are not measured.
+// Settings of the whole job: thresholds of the length and the direction, and those of the restoration that are not
+// measured.
 pub struct JobConfig {
     // How many swings there must be.
     pub minimum_transitions: usize,
     // By how much a line must change at least for a swing.
     pub minimum_amplitude: u8,
+    // How confident the direction must be, in 256ths: 0 to 256.
+    pub minimum_confidence: u16,
     pub iterations: usize,
     // In 0..1.
     pub relaxation: f64,
@@ -48,6 +51,7 @@ impl JobConfig {
         JobConfig {
             minimum_transitions: LineLengthConfig::MINIMUM_TRANSITIONS,
             minimum_amplitude: LineLengthConfig::MINIMUM_AMPLITUDE,
+            minimum_confidence: 0,
             iterations: VanCittertConfig::DEFAULT_ITERATIONS,
             relaxation: VanCittertConfig::DEFAULT_RELAXATION,
             border: LineBorderMode::Replicate,

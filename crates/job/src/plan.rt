@@ -4,7 +4,7 @@ ghost use Rattle.floats.specs.Odd.{oddLength};
 ghost use Rattle.image.specs.Call.{gray8};
 ghost use Rattle.raster.specs.Lines.{Sides};
 ghost use Rattle.job.specs.Job.{layout, jobOf, jobRefusal, planOdd, planLength, jobAnswer};
-ghost use Rattle.job.specs.Parts.{lengthIn, JobStarts};
+ghost use Rattle.job.specs.Parts.{lengthIn, refusedStart, JobStarts};
 use crate::JobAnswer;
 use crate::JobConfig;
 use crate::JobResult;
@@ -18,8 +18,9 @@ use floats::OddLength;
 use image::pair_refusal;
 use raster::direction::RasterDirection4;
 use tensor::direction::DirectionAnswer;
+use tensor::direction::estimate_confident_direction;
 
-// What a job starts with: a refusal, 1 to 10, or 0, and the direction of the picture of one that is not refused.
+// What a job starts with: a refusal, 1 to 10 or 17, or 0, and the direction of the picture of one that is not refused.
 pub struct JobStart {
     pub refusal: u8,
     pub direction: RasterDirection4,
@@ -63,6 +64,16 @@ fn job_refusal(
     first_refusal(settings, lent_refusal(short))
 }
 
+// No direction is read of a job that is refused.
+fn refused_start(number: u8) -> JobStart
+    ensures { λ r. ⌜ r ≡ refusedStart number ⌝ }
+{
+    JobStart {
+        refusal: number,
+        direction: RasterDirection4::Horizontal,
+    }
+}
+
 // The refusal, and the direction to measure along.
 pub(crate) fn start_job(
     data: &[u8],
@@ -94,19 +105,16 @@ pub(crate) fn start_job(
         scratch_len,
         swings_len,
     );
-    let none = JobStart {
-        refusal,
-        direction: RasterDirection4::Horizontal,
-    };
     if refusal != 0 {
-        return none;
+        return refused_start(refusal);
     }
-    match tensor::estimate_line_direction(data, width, height, stride) {
+    let floor = config.minimum_confidence;
+    match estimate_confident_direction(data, width, height, stride, floor) {
         DirectionAnswer::Direction(e) => {
             let direction = e.direction;
             JobStart { refusal, direction }
         }
-        DirectionAnswer::Refused(_) => none,
+        DirectionAnswer::Refused(number) => refused_start(number),
     }
 }
 

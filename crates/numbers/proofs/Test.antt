@@ -7,9 +7,9 @@
 use mathlib.Core.Path.{_≡_, refl, sym, _∙_}
 use mathlib.Core.Bool.{Bool, true, false, _&&_, _||_, cond, true≢false, false≢true}
 use mathlib.Core.Logic.{_⊎_, inl, inr, ⊎-elim, _↔_}
-use Prim.Native.Nat.{ℕ, _<_}
-use borrow.Author.Tests.{eqb-true, eqb-false, eq-eqb, ltb-true, lt-ltb}
-use lib.Dec.{eqb, ltb}
+use Prim.Native.Nat.{ℕ, _≤_, _<_}
+use borrow.Author.Tests.{eqb-true, eqb-false, eq-eqb, ltb-true, lt-ltb, leb-true, le-leb}
+use lib.Dec.{eqb, ltb, leb}
 
 -- ---- two cases, with the equation
 
@@ -76,6 +76,11 @@ eqb-iff m n = (eqb-true m n, eq-eqb m n)
 
 pub ltb-iff : (m n : ℕ) → (ltb m n ≡ true) ↔ (m < n)
 ltb-iff m n = (ltb-true m n, lt-ltb m n)
+
+-- orders that hold together
+pub leb-same : (m n p q : ℕ) → (m ≤ n → p ≤ q) → (p ≤ q → m ≤ n) → leb m n ≡ leb p q
+leb-same m n p q f g =
+    bool-ext (leb m n) (leb p q) (λ t. le-leb p q (f (leb-true m n t))) (λ t. le-leb m n (g (leb-true p q t)))
 
 -- a test that fails
 pub false-iff {ℓ} : {A : Type ℓ} (a : Bool) → (a ≡ true) ↔ A → (a ≡ false) ↔ (A → ⊥)

@@ -5,6 +5,8 @@ ghost use lib.IntN.{pos, natAbs};
 ghost use lib.Signed.{_<ℤ_, shrZ};
 ghost use Rattle.numbers.specs.Scalar.{clampByte};
 
+pub mod wide;
+
 // v cut to 0..255.
 pub fn clamp_u8(v: i32) -> u8
     ensures { λ r. ⌜ r ≡ clampByte v ⌝ }

@@ -77,15 +77,17 @@ uint8_t smear_directional_unsharp_line(
 
 /* The whole job: the direction from the picture, the length along it, raised to an odd blur length, and restoration of
  * `src` by them, cut to 0..255, into `dst`. Thresholds as for the length, the other settings as for the restoration.
- * `scratch` has at least 3 * max(width, height) elements and `swings` width * height. *direction, *blur_length and
- * *estimate are what was measured.
- * Refusals: 1 to 4 of the source, 5 of the destination's layout, 6 of two sizes that differ, 8 and 9 of the iterations
- * and the relaxation, 10 of a short scratch or too few swings, 11 of no length, 12 of a blur length above
- * 2 * max(width, height) + 1. */
+ * `minimum_confidence`, 0 to 256, leaves round smears untouched: the direction's confidence, 1 minus the smaller over
+ * the larger eigenvalue of the matrix a c, c e of its sums, must be at least that many 256ths. Usual is 0, which every
+ * picture reaches; one with a side below 3 or a + e = 0 reaches no more. `scratch` has at least 3 * max(width, height)
+ * elements and `swings` width * height. *direction, *blur_length and *estimate are what was measured.
+ * Refusals, in this order: 1 to 4 of the source, 5 of the destination's layout, 6 of two sizes that differ, 8 and 9 of
+ * the iterations and the relaxation, 10 of a short scratch or too few swings, 17 of a confidence that is too low or a
+ * `minimum_confidence` above 256, 11 of no length, 12 of a blur length above 2 * max(width, height) + 1. */
 uint8_t smear_restore(
     const uint8_t *src, size_t src_len, size_t width, size_t height, size_t stride,
     uint8_t *dst, size_t dst_len, size_t dst_width, size_t dst_height, size_t dst_stride,
-    size_t minimum_transitions, uint8_t minimum_amplitude,
+    size_t minimum_transitions, uint8_t minimum_amplitude, uint16_t minimum_confidence,
     size_t iterations, double relaxation, uint8_t border, uint8_t border_value,
     int32_t *scratch, size_t scratch_len, smear_swing *swings, size_t swings_len,
     uint8_t *direction, size_t *blur_length, double *estimate);
@@ -94,7 +96,7 @@ uint8_t smear_restore(
  * pixels is ignored. Into the front of `out` go the pixels and the 32-byte record of the result, or one of the texts
  * "refused N\n" (13 where `job` is no job's record) and "too large\n" (more than 4,096 pixels). *written is how many
  * bytes that is, at most 4,128; what stands behind them in `out` is not changed. 10 where `out` is shorter, and nothing
- * is changed.
+ * is changed. A whole job has the usual thresholds and `minimum_confidence` 0.
  * On the stack: local arrays of at most 114,688 bytes. */
 uint8_t smear_run(
     const uint8_t *job, size_t job_len, const uint8_t *picture, size_t picture_len,

@@ -13,11 +13,12 @@ use Rattle.job.specs.declared.JobResult.{JobResult}
 use Rattle.job.specs.Job.{jobOf, layoutOf, plan, jobWrites}
 use Rattle.swings.specs.declared.Swing.{Swing}
 
-abbrev pub jobConfig : ℕ → ℕ → ℕ → Float → ℕ → ℕ → JobConfig
-jobConfig transitions amplitude iterations relaxation border value =
+abbrev pub jobConfig : ℕ → ℕ → ℕ → ℕ → Float → ℕ → ℕ → JobConfig
+jobConfig transitions amplitude confidence iterations relaxation border value =
     record {
       «minimum_transitions» = transitions;
       «minimum_amplitude» = amplitude;
+      «minimum_confidence» = confidence;
       iterations = iterations;
       relaxation = relaxation;
       border = borderFrom border value;

@@ -11,16 +11,19 @@ use swings::Swing;
 fn job_config(
     minimum_transitions: usize,
     minimum_amplitude: u8,
+    minimum_confidence: u16,
     iterations: usize,
     relaxation: f64,
     border: u8,
     value: u8,
 ) -> JobConfig
-    ensures { λ r. ⌜ r ≡ jobConfig «minimum_transitions» «minimum_amplitude» iterations relaxation border value ⌝ }
+    ensures { λ r. ⌜ r ≡ jobConfig «minimum_transitions» «minimum_amplitude» «minimum_confidence» iterations relaxation
+        border value ⌝ }
 {
     JobConfig {
         minimum_transitions,
         minimum_amplitude,
+        minimum_confidence,
         iterations,
         relaxation,
         border: LineBorderMode::from_code(border, value),
@@ -65,6 +68,7 @@ pub extern "C" fn smear_restore(
     dst_stride: usize,
     minimum_transitions: usize,
     minimum_amplitude: u8,
+    minimum_confidence: u16,
     iterations: usize,
     relaxation: f64,
     border: u8,
@@ -77,7 +81,7 @@ pub extern "C" fn smear_restore(
 ) -> u8
     ensures { λ r. ⌜ RestoredC (gray8 (now (src .entry)) width height stride)
         (gray8 (now (dst .entry)) «dst_width» «dst_height» «dst_stride»)
-        (now (dst .exit)) (jobConfig «minimum_transitions» «minimum_amplitude» iterations
+        (now (dst .exit)) (jobConfig «minimum_transitions» «minimum_amplitude» «minimum_confidence» iterations
         relaxation border «border_value»)
         (now (scratch .entry)) (now (scratch .exit)) (now (swings .entry)) (now (swings .exit))
         (outs (now (direction .entry)) (now («blur_length» .entry)) (now (estimate .entry)))
@@ -87,6 +91,7 @@ pub extern "C" fn smear_restore(
     let config = job_config(
         minimum_transitions,
         minimum_amplitude,
+        minimum_confidence,
         iterations,
         relaxation,
         border,

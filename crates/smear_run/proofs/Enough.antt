@@ -1,4 +1,5 @@
 -- The program's own scratch is enough: no filter of a picture that is not too large is refused with 10 (`never-10`).
+-- Its whole job runs with floor 0: it comes to what it does without one (`no-floor`), and never to 17 (`never-17`).
 use Prim.Native.Nat.{ℕ, _*_, _≤_}
 use native.Mathlib.Omega.{arith}
 use mathlib.Core.Bool.{Bool, false}
@@ -9,7 +10,7 @@ use lib.Dec.{ltb}
 use lib.Ieee.{Float}
 use lib.ListN.{length}
 use Rattle.numbers.proofs.Test.{false-not-true, or-false-intro}
-use Rattle.image.specs.Call.{Decision, accepts, refuses, decided, numberOf}
+use Rattle.image.specs.Call.{Decision, gray8, accepts, refuses, decided, numberOf}
 use Rattle.image.specs.Refusal.{pairRefusal}
 use Rattle.image.proofs.Call.{number-decided}
 use Rattle.image.proofs.Pair.{laid-pair}
@@ -17,7 +18,10 @@ use Rattle.deblur.specs.Refusal.{scratchNeeded, scratchShort, inOrder, filterRe
 use Rattle.deblur.specs.Settings.{LineFilter, restorationOf, unsharpOf}
 use Rattle.deblur.proofs.Conditions.{restoration-other, unsharp-other, pair-ten}
 use Rattle.sharpen.specs.Call.{binomialRefusal}
-use Rattle.job.proofs.Conditions.{plan-ten}
+use Rattle.job.specs.Floor.{planWithout}
+use Rattle.job.specs.Job.{Job, jobOf, layout}
+use Rattle.job.proofs.Conditions.{plan-ten, without-17}
+use Rattle.job.proofs.Floor.{floor-0}
 use Rattle.record.specs.declared.Record.{Record}
 use Rattle.record.specs.declared.RecordFilter.{RecordFilter}
 use Rattle.record.specs.declared.RecordFilter.the-variants.{WholeJob, Restoration, Unsharp, Binomial}
@@ -75,6 +79,21 @@ module _ (r : Record) (picture : List ℕ) where
       let short = scratchShort w h lineScratch in
       lent-never (f .refusal w h) short other line-enough
       (decided-10 (lineMade r f picture) (inOrder pair (f .refusal w h) short) (f .direction) e)
+
+  -- document 02, K6: "A job record runs with floor 0."
+  module _ (relaxation : Float) where
+    abbrev job : Job
+    job =
+        jobOf (gray8 picture w h w) (layout (w * h) w h w) (recordJob r relaxation) lineScratch mostPixels
+
+    pub no-floor : planned picture w h (w * h) (recordJob r relaxation) lineScratch ≡ planWithout job
+    no-floor = floor-0 job
+
+    pub never-17 : wholeJob r relaxation picture ≡ refuses 17 → ⊥
+    never-17 e =
+        let config = recordJob r relaxation in
+        let told = number-makes (jobMade r config picture) (planned picture w h (w * h) config lineScratch) in
+        without-17 job (ap numberOf (sym no-floor) ∙ sym told ∙ ap numberOf e)
 
   module _ (small : w * h ≤ mostPixels) where
     job-never : (relaxation : Float) → wholeJob r relaxation picture ≡ refuses 10 → ⊥

@@ -63,11 +63,12 @@ recordUnsharp r gain = record {
   border = r .border;
 }
 
--- "the whole job with default thresholds"
+-- "the whole job with default thresholds"; document 02, K6: "A job record runs with floor 0."
 abbrev pub recordJob : Record → Float → JobConfig
 recordJob r relaxation = record {
   «minimum_transitions» = jobDefault .«minimum_transitions»;
   «minimum_amplitude» = jobDefault .«minimum_amplitude»;
+  «minimum_confidence» = 0;
   iterations = r .iterations;
   relaxation = relaxation;
   border = r .border;

@@ -52,6 +52,7 @@ fn job_config(record: Record, relaxation: f64) -> JobConfig
     JobConfig {
         minimum_transitions: usual.minimum_transitions,
         minimum_amplitude: usual.minimum_amplitude,
+        minimum_confidence: 0,
         iterations: record.iterations as usize,
         relaxation,
         border,

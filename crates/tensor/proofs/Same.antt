@@ -22,6 +22,7 @@ use Rattle.tensor.specs.Tensor.{
   rowSums,
   interiorSum,
   tensorSums,
+  pictureSums,
   threeRows,
   Rows,
   directionDecision,
@@ -94,11 +95,12 @@ module _ {p q : ℕ → ℕ → ℕ} (w h : ℕ) (same : (c r : ℕ) → c < w �
       cc
 
 module _ {a b : Gray8} (same : SamePicture a b) where
-  pub found-same : estimateOf (a .width) (a .height) (tensorSums (pixel (a .bytes) (a .stride)) (a .width) (a .height))
-      ≡ estimateOf (b .width) (b .height) (tensorSums (pixel (b .bytes) (b .stride)) (b .width) (b .height))
-  found-same =
-      rw (← same .same-width, ← same .same-height)
-      (ap (estimateOf (a .width) (a .height)) (tensorSums-same (a .width) (a .height) (same .same-pixels)))
+  pub sums-same : pictureSums a ≡ pictureSums b
+  sums-same =
+      rw (← same .same-width, ← same .same-height) (tensorSums-same (a .width) (a .height) (same .same-pixels))
+
+  pub found-same : estimateOf (a .width) (a .height) (pictureSums a) ≡ estimateOf (b .width) (b .height) (pictureSums b)
+  found-same = let e = sums-same in let w = same .same-width in let h = same .same-height in cc
 
   pub direction-same : directionDecision a ≡ directionDecision b
   direction-same =

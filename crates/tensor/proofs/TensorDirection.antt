@@ -1,31 +1,24 @@
--- Which direction the sums give, case by case.
-use mathlib.Core.Bool.{true, false, _||_, or-true}
-use mathlib.Core.Logic.{_⊎_, inl, inr}
+-- Which direction the sums give, case by case, and the test whether there is one, of sums as the code holds them.
+use mathlib.Core.Bool.{true, false}
 use mathlib.Core.Path.{_≡_}
-use Prim.Native.Nat.{ℕ, _*_, _≤_, _<_}
+use Prim.Native.Nat.{ℕ, _+_, _*_, _^_, _≤_, _<_}
 use native.Mathlib.Omega.{arith}
-use lib.Dec.{eqb, ltb}
-use lib.IntN.{ℤ, pos, natAbs, _+ℤ_, _-ℤ_}
+use lib.IntN.{ℤ, pos, natAbs, _-ℤ_}
 use lib.Signed.{_≤ℤ_, _<ℤ_, leZ, ltZ}
-use borrow.Author.Tests.{ne-eqb, lt-ltb, le-ltb, le-leb, lt-leb}
+use mir.Syntax.{w64}
+use mir.Val.{SFits, toZ, ofZ}
+use mir.Facts.{toZ-ofZ}
+use borrow.Author.Tests.{le-leb, lt-leb}
 use Rattle.numbers.proofs.Int.Linear.{linear}
-use Rattle.numbers.proofs.Int.Size.{natAbs-zero}
-use Rattle.numbers.proofs.Test.{or-false-intro}
 use Rattle.raster.specs.declared.direction.RasterDirection4.the-variants.{Horizontal, DownRight, Vertical, DownLeft}
-use Rattle.tensor.specs.Tensor.{tensorDirection}
+use Rattle.tensor.specs.Tensor.{noDirection, tensorDirection, Small}
 
 module _ (w h : ℕ) (A C E : ℤ) where
-  pub direction-none : (w < 3) ⊎ ((h < 3) ⊎ (A +ℤ E ≡ pos 0)) → tensorDirection w h A C E ≡ Horizontal
+  pub direction-none : noDirection w h A E ≡ true → tensorDirection w h A C E ≡ Horizontal
   unfolding tensorDirection
-  direction-none (inl p) = simp (lt-ltb w 3 p)
-  direction-none (inr (inl p)) = simp (lt-ltb h 3 p, or-true)
-  direction-none (inr (inr e)) = simp (e, or-true)
+  direction-none e = simp e
 
-  module _ (pw : 3 ≤ w) (ph : 3 ≤ h) (ne : A +ℤ E ≡ pos 0 → ⊥) where
-    some : (ltb w 3 || ltb h 3 || eqb (natAbs (A +ℤ E)) 0) ≡ false
-    some = or-false-intro (or-false-intro (le-ltb w 3 pw) (le-ltb h 3 ph))
-        (ne-eqb (natAbs (A +ℤ E)) 0 (λ e. ne (natAbs-zero (A +ℤ E) e)))
-
+  module _ (some : noDirection w h A E ≡ false) where
     module _ (axis : 2 * natAbs C ≤ natAbs (A -ℤ E)) where
       pub direction-vertical : pos 0 ≤ℤ (A -ℤ E) → tensorDirection w h A C E ≡ Vertical
       unfolding tensorDirection
@@ -51,3 +44,15 @@ module _ (w h : ℕ) (A C E : ℤ) where
       direction-down-right p =
           let t : ltZ (pos 0) C ≡ false = omega (arith, linear) in
           simp (some, lt-leb (2 * natAbs C) (natAbs (A -ℤ E)) diagonal, t)
+
+-- ---- sums as the code holds them
+
+pub pair-small : {A C E : ℤ} → Small A C E → natAbs A + natAbs E < 2 ^ 63
+pair-small s = omega (arith, s .small-a, s .small-e)
+
+module _ {A E : ℤ} (fa : SFits w64 A) (fe : SFits w64 E) where
+  pub none-asked : {C : ℤ} → Small A C E → natAbs (toZ w64 (ofZ w64 A)) + natAbs (toZ w64 (ofZ w64 E)) < 2 ^ 63
+  none-asked s = rw (toZ-ofZ fa, toZ-ofZ fe) (pair-small s)
+
+  pub none-held : (w h : ℕ) → noDirection w h (toZ w64 (ofZ w64 A)) (toZ w64 (ofZ w64 E)) ≡ noDirection w h A E
+  none-held w h = rw (toZ-ofZ fa, toZ-ofZ fe)

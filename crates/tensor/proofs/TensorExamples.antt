@@ -13,7 +13,7 @@ use Rattle.tensor.specs.declared.direction.DirectionEstimate.{DirectionE
 use Rattle.tensor.specs.Tensor.{gradientX, gradientY, rowSum, interiorSum, tensorSums, tensorDirection}
 use Rattle.tensor.specs.Tensor.{estimateOf, directionDecision}
 
-abbrev found : RasterDirection4 → ℤ → ℤ → ℤ → Decision DirectionEstimate
+abbrev pub found : RasterDirection4 → ℤ → ℤ → ℤ → Decision DirectionEstimate
 found d A C E = accepts (record { direction = d; a = A; c = C; e = E })
 
 across : directionDecision (gray8 (0 ∷ 0 ∷ 9 ∷ 0 ∷ 0 ∷ 9 ∷ 0 ∷ 0 ∷ 9 ∷ []) 3 3 3) ≡ found Vertical
@@ -58,7 +58,7 @@ unfolding directionDecision estimateOf tensorSums tensorDirection interiorSum ro
     gradientY total layoutRefusal
 between-rows = refl
 
-row : List ℕ → List ℕ
+unfoldable pub row : List ℕ → List ℕ
 row next = 0 ∷ 0 ∷ 0 ∷ 50 ∷ 100 ∷ 150 ∷ 200 ∷ 250 ∷ 250 ∷ 250 ∷ next
 
 ramp : directionDecision (gray8 (row (row (row []))) 10 3 10) ≡ found Vertical (pos 720000) (pos 0) (pos 0)

@@ -1,2 +1,3 @@
 -- What the contracts of `tensor` cite.
 pub mod Tensor
+pub mod Confidence

@@ -1,6 +1,6 @@
 -- Document 01, "Direction from a picture": the Sobel gradients of the interior pixels, the sums A, C and E of their
 -- products, and the direction. A picture is p c r, the pixel in column c and row r.
-use mathlib.Core.Bool.{cond, _||_}
+use mathlib.Core.Bool.{Bool, cond, _||_}
 use mathlib.Core.List.{List}
 use mathlib.Core.Path.{_≡_}
 use Prim.Native.Nat.{ℕ, zero, suc, _+_, _-_, _*_, _≤_}
@@ -58,11 +58,15 @@ tensorSums p w h =
 
 -- ---- the direction, D = A − E
 
--- A side below 3, or A + E = 0: Horizontal. If 2|C| ≤ |D|: Vertical for D ≥ 0, else Horizontal. Otherwise DownLeft for
--- C > 0, DownRight for C < 0.
+-- "A side below 3, or A + E = 0": no interior pixel, or no gradient
+abbrev pub noDirection : ℕ → ℕ → ℤ → ℤ → Bool
+noDirection w h A E = ltb w 3 || ltb h 3 || eqb (natAbs (A +ℤ E)) 0
+
+-- There: Horizontal. If 2|C| ≤ |D|: Vertical for D ≥ 0, else Horizontal. Otherwise DownLeft for C > 0, DownRight for
+-- C < 0.
 unfoldable pub tensorDirection : ℕ → ℕ → ℤ → ℤ → ℤ → RasterDirection4
 tensorDirection w h A C E =
-    cond (ltb w 3 || ltb h 3 || eqb (natAbs (A +ℤ E)) 0) Horizontal
+    cond (noDirection w h A E) Horizontal
     (cond (leb (2 * natAbs C) (natAbs (A -ℤ E)))
     (cond (leZ (pos 0) (A -ℤ E)) Vertical Horizontal)
     (cond (ltZ (pos 0) C) DownLeft DownRight))
@@ -77,11 +81,14 @@ estimateOf w h s =
       e = s .e;
     }
 
+abbrev pub pictureSums : Gray8 → TensorSums
+pictureSums src = tensorSums (pixel (src .bytes) (src .stride)) (src .width) (src .height)
+
 -- the estimate, or the layout's refusal
 unfoldable pub directionDecision : Gray8 → Decision DirectionEstimate
 directionDecision src =
     decided (layoutRefusal (length (src .bytes)) (src .width) (src .height) (src .stride))
-    (estimateOf (src .width) (src .height) (tensorSums (pixel (src .bytes) (src .stride)) (src .width) (src .height)))
+    (estimateOf (src .width) (src .height) (pictureSums src))
 
 abbrev pub directionAnswer : Decision DirectionEstimate → DirectionAnswer
 directionAnswer (accepts estimate) = Direction estimate

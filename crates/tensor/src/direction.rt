@@ -8,7 +8,11 @@ ghost use Rattle.image.specs.Picture.{pixel};
 ghost use Rattle.image.specs.Refusal.{Laid};
 ghost use mathlib.Core.List.{[]};
 ghost use Rattle.tensor.specs.Tensor.{smooth, gradientX, gradientY, Gradient, threeRows, Rows, rowSums, Small};
-ghost use Rattle.tensor.specs.Tensor.{tensorSums, tensorDirection, directionDecision, directionAnswer};
+ghost use Rattle.tensor.specs.Tensor.{tensorSums, tensorDirection};
+ghost use Rattle.tensor.specs.Tensor.{directionDecision, directionAnswer};
+ghost use Rattle.tensor.specs.Confidence.{confidentDecision};
+use crate::confidence::is_confident;
+use crate::confidence::no_direction;
 use image::layout_refusal;
 use image::row_of;
 use numbers::abs_i64;
@@ -150,7 +154,7 @@ fn tensor_direction(width: usize, height: usize, a: i64, c: i64, e: i64) -> Rast
     requires { ⌜ Small a c e ⌝ }
     ensures { λ r. ⌜ r ≡ tensorDirection width height a c e ⌝ }
 {
-    if width < 3 || height < 3 || a + e == 0 {
+    if no_direction(width, height, a, e) {
         return RasterDirection4::Horizontal;
     }
     let d = a - e;
@@ -166,7 +170,35 @@ fn tensor_direction(width: usize, height: usize, a: i64, c: i64, e: i64) -> Rast
     RasterDirection4::DownRight
 }
 
-// The direction of the line smear in a picture, with the sums; or a refusal of its layout, 1 to 4.
+// The direction of the line smear in a picture, with the sums; or a refusal: 1 to 4 of its layout, 17 where the
+// confidence is below floor / 256 (document 02, K6).
+pub fn estimate_confident_direction(
+    data: &[u8],
+    width: usize,
+    height: usize,
+    stride: usize,
+    floor: u16,
+) -> DirectionAnswer
+    ensures { λ r. ⌜ r ≡ directionAnswer (confidentDecision floor (gray8 (now («data» .entry)) width height stride)) ⌝ }
+{
+    let refusal = layout_refusal(data.len(), width, height, stride);
+    if refusal != 0 {
+        return DirectionAnswer::Refused(refusal);
+    }
+    let s = tensor_sums(data, width, height, stride);
+    if !is_confident(width, height, s.a, s.c, s.e, floor) {
+        return DirectionAnswer::Refused(17);
+    }
+    let direction = tensor_direction(width, height, s.a, s.c, s.e);
+    DirectionAnswer::Direction(DirectionEstimate {
+        direction: direction,
+        a: s.a,
+        c: s.c,
+        e: s.e,
+    })
+}
+
+// The direction of the line smear in a picture, however unclear, with the sums; or a refusal of its layout, 1 to 4.
 pub fn estimate_line_direction(
     data: &[u8],
     width: usize,
@@ -175,16 +207,5 @@ pub fn estimate_line_direction(
 ) -> DirectionAnswer
     ensures { λ r. ⌜ r ≡ directionAnswer (directionDecision (gray8 (now («data» .entry)) width height stride)) ⌝ }
 {
-    let refusal = layout_refusal(data.len(), width, height, stride);
-    if refusal != 0 {
-        return DirectionAnswer::Refused(refusal);
-    }
-    let s = tensor_sums(data, width, height, stride);
-    let direction = tensor_direction(width, height, s.a, s.c, s.e);
-    DirectionAnswer::Direction(DirectionEstimate {
-        direction: direction,
-        a: s.a,
-        c: s.c,
-        e: s.e,
-    })
+    estimate_confident_direction(data, width, height, stride, 0)
 }

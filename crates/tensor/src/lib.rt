@@ -1,4 +1,5 @@
 // The direction of a picture's smear.
+mod confidence;
 pub mod direction;
 
 pub use direction::estimate_line_direction;

@@ -34,6 +34,7 @@ use Rattle.line.specs.Line.{sample, window, mean}
 use Rattle.blur.specs.Length.{lengthDecision, lengthAnswer}
 use Rattle.swings.specs.Rise.{levelOf, crossedAt, placeAt, crossingOf, riseBetween}
 use Rattle.swings.specs.Swings.{swingsFrom}
+use Rattle.tensor.specs.Confidence.{passes}
 use Rattle.tensor.specs.Tensor.{gradientX, gradientY, rowSum, interiorSum, tensorSums, tensorDirection, estimateOf}
 use Rattle.blur.specs.declared.length.LengthAnswer.{LengthAnswer}
 use Rattle.blur.specs.declared.length.LengthAnswer.the-variants.{Length}
@@ -44,7 +45,8 @@ use Rattle.deblur.specs.Refusal as deblur
 use Rattle.deblur.specs.Settings.{LineFilter, restorationOf, unsharpOf}
 use Rattle.sharpen.specs.Binomial.{tapPlace, binomialSum, sharper, unsharp}
 use Rattle.sharpen.specs.Call.{binomialRefusal}
-use Rattle.job.specs.Job.{layout, jobOf, jobDefault, jobRefusal, pictureDirection, plan, jobAnswer}
+use Rattle.job.specs.Floor.{configFloor}
+use Rattle.job.specs.Job.{layout, jobOf, jobDefault, jobRefusal, startRefusal, pictureDirection, plan, jobAnswer}
 use Rattle.job.specs.declared.JobAnswer.{JobAnswer}
 use Rattle.job.specs.declared.JobAnswer.the-variants.{Refused}
 use Rattle.record.specs.Bytes.{littleEndian}
@@ -72,6 +74,13 @@ row = 10 ∷ 10 ∷ 40 ∷ 10 ∷ 10 ∷ []
 -- K2's row 40 10 10 10 10
 drum : List ℕ
 drum = 40 ∷ 10 ∷ 10 ∷ 10 ∷ 10 ∷ []
+
+-- K6's 4 by 3 and 4 by 4
+corner : List ℕ
+corner = 0 ∷ 0 ∷ 0 ∷ 0 ∷ 0 ∷ 10 ∷ 10 ∷ 0 ∷ 0 ∷ 0 ∷ 10 ∷ 0 ∷ []
+
+equal : List ℕ
+equal = 2 ∷ 2 ∷ 1 ∷ 2 ∷ 1 ∷ 1 ∷ 2 ∷ 2 ∷ 2 ∷ 2 ∷ 1 ∷ 0 ∷ 1 ∷ 2 ∷ 2 ∷ 1 ∷ []
 
 -- ---- records on 5 by 1, by their bytes
 
@@ -145,6 +154,8 @@ data Question : Type 0 where
   lines-lent : ℕ → ℕ → ℕ → ℕ → Question
   -- .. and the whole job, by the sides, the scratch, and the records
   job-lent : ℕ → ℕ → ℕ → ℕ → Question
+  -- document 02, K6: the whole job by a picture, its sides, the scratch, and the floor
+  job-floor : List ℕ → ℕ → ℕ → ℕ → ℕ → Question
 
 data Answer : Type 0 where
   direction : RasterDirection4 → Answer
@@ -231,6 +242,7 @@ value (job-on-ramps minimum) =
     (record {
       «minimum_transitions» = minimum;
       «minimum_amplitude» = 24;
+      «minimum_confidence» = 0;
       iterations = 1;
       relaxation = ofBits binary64 0x3ff0_0000_0000_0000;
       border = Replicate;
@@ -248,6 +260,9 @@ value (lines-lent w h scratch room) =
 value (job-lent w h scratch records) =
     let black = gray8 (replicate (w * h) 0) w h w in
     numbers (jobRefusal (jobOf black (layout (w * h) w h w) jobDefault scratch records) ∷ [])
+value (job-floor xs w h scratch c) =
+    let config = configFloor c jobDefault in
+    planned (jobAnswer (plan (jobOf (gray8 xs w h w) (layout (w * h) w h w) config scratch (w * h))))
 
 -- ---- the list
 
@@ -260,7 +275,8 @@ _gives_ : Question → Answer → Case
 q gives a = record { asked = q; must-be = a }
 
 cases : List Case
-unfolding _gives_ restored-over sharpened-over-3 binomial vertical-over-11 none row p5 d1 d255 d1025 beyond
+unfolding _gives_ restored-over sharpened-over-3 binomial vertical-over-11 none row p5 d1 d255 d1025 beyond three-ramps
+    corner equal
 cases =
     -- "0.39 gives Horizontal★, 0.40 DownRight★, .. NaN Horizontal★"
     direction-of 0x3fd8_f5c2_8f5c_28f6 gives direction Horizontal
@@ -353,6 +369,21 @@ cases =
     ∷ job-lent 5 3 15 14 gives numbers (10 ∷ [])
     ∷ job-lent 3 5 14 15 gives numbers (10 ∷ [])
     ∷ job-lent 3 5 15 15 gives numbers (0 ∷ [])
+    -- K6: A, C, E = 1300, −100, 500 pass 160, and then there are too few swings; 161 gives 17. 16, 0, 8 pass 128 on
+    -- equality, and not 129. The ramp passes 256; a number above that is no floor.
+    ∷ job-floor corner 4 3 12 160 gives planned (Refused 11)
+    ∷ job-floor corner 4 3 12 161 gives planned (Refused 17)
+    ∷ job-floor equal 4 4 12 128 gives planned (Refused 11)
+    ∷ job-floor equal 4 4 12 129 gives planned (Refused 17)
+    ∷ job-floor three-ramps 10 3 30 256 gives planned (Refused 11)
+    ∷ job-floor three-ramps 10 3 30 257 gives planned (Refused 17)
+    -- A + E = 0, and a side below 3, pass 0 alone; short scratch comes first
+    ∷ job-floor (replicate 9 7) 3 3 9 0 gives planned (Refused 11)
+    ∷ job-floor (replicate 9 7) 3 3 9 1 gives planned (Refused 17)
+    ∷ job-floor row 5 1 15 0 gives planned (Refused 11)
+    ∷ job-floor row 5 1 15 1 gives planned (Refused 17)
+    ∷ job-floor corner 4 3 11 300 gives planned (Refused 10)
+    ∷ job-floor corner 4 3 12 300 gives planned (Refused 17)
     ∷ []
 
 -- ---- the theorem
@@ -361,8 +392,8 @@ stars : map (λ c. value (c .asked)) cases ≡ map (λ c. c .must-be) cases
 unfolding cases value ofBits ofInt add sub mul div rem le lt eq fromAngle lengthDecision layoutRefusal pairRefusal
     startCol startRow lineOf swingsFrom levelOf crossedAt placeAt crossingOf riseBetween borderMap iteration.mean window
     sample total quantized deblur.filterRefusal deblur.estimateRefusal deblur.blurLengthRefusal deblur.angleRefusal
-    deblur.factorRefusal deblur.iterationsRefusal estimate estimateOn iteration.after iteration.stepped plan jobRefusal
-    pictureDirection estimateOf tensorSums tensorDirection interiorSum rowSum gradientX gradientY binomialRefusal
-    sharper binomialSum tapPlace count summarized readRecord recordOf decoded legal littleEndian onFrom readDecision
-    sidesRefusal digits digitCount tabulate jobDefault
+    deblur.factorRefusal deblur.iterationsRefusal estimate estimateOn iteration.after iteration.stepped plan
+    startRefusal passes jobRefusal pictureDirection estimateOf tensorSums tensorDirection interiorSum rowSum gradientX
+    gradientY binomialRefusal sharper binomialSum tapPlace count summarized readRecord recordOf decoded legal
+    littleEndian onFrom readDecision sidesRefusal digits digitCount tabulate jobDefault
 stars = refl

@@ -9,6 +9,7 @@ use denote.Builtin.{u8, usize, i32, f64}
 use Rattle.walks.proofs.Data.{double}
 use Rattle.walks.proofs.Parameters.{lent-one}
 use Rattle.walks.proofs.Passing.{starts, passes, finishes}
+use mir.Syntax.{w16}
 use Rattle.walks.proofs.Script.{id⊢, w8, w64, Lfts, factI, _$_, !, move, Args, cited, asked, Argument, made, had, uint}
 use Rattle.walks.proofs.Script.{lent}
 use Rattle.walks.proofs.Script.{shared, execs, _▸_, Shows, meets}
@@ -41,7 +42,7 @@ abbrev byte : {n : ℕ} → Argument n
 byte = made (uint w8)
 
 abbrev settings : {n : ℕ} → List (Argument n) → List (Argument n)
-settings xs = number ∷ byte ∷ number ∷ made (double binary64) ∷ byte ∷ byte ∷ xs
+settings xs = number ∷ byte ∷ made (uint w16) ∷ number ∷ made (double binary64) ∷ byte ∷ byte ∷ xs
 
 abbrev parameters : List (Argument 7)
 parameters = had (shared 0 tt u8) ∷ number ∷ number ∷ number ∷ had (lent 1 tt u8) ∷ number ∷ number ∷ number ∷
@@ -63,15 +64,16 @@ destination κs a = let d = a .1 .1 .1 .1 in gray8 (d .0 .now) (d .1 .0) (d .1 .
 abbrev configured : (κs : Lfts 7) → Arg κs → JobConfig
 configured κs a = let s = a .1 .1 .1 .1 .1 .1 .1 .1 in
     jobConfig (s .0) (s .1 .0) (s .1 .1 .0) (s .1 .1 .1 .0) (s .1 .1 .1 .1 .0) (s .1 .1 .1 .1 .1 .0)
+    (s .1 .1 .1 .1 .1 .1 .0)
 
 abbrev before : (κs : Lfts 7) → Arg κs → JobOuts
-before κs a = let o = a .1 .1 .1 .1 .1 .1 .1 .1 .1 .1 .1 .1 .1 .1 .1 .1 in outs (o .0 .now) (o .1 .0 .now) (o .1 .1 .0
-    .now)
+before κs a = let o = a .1 .1 .1 .1 .1 .1 .1 .1 .1 .1 .1 .1 .1 .1 .1 .1 .1 in
+    outs (o .0 .now) (o .1 .0 .now) (o .1 .1 .0 .now)
 
 abbrev Answers : Shows parameters (uint w8)
 Answers κs a r ws =
-    let b = a .1 .1 .1 .1 .1 .1 .1 .1 .1 .1 .1 .1 .1 .1 in
-    let vs = ws .1 .1 .1 .1 .1 .1 .1 .1 .1 .1 .1 .1 .1 .1 in
+    let b = a .1 .1 .1 .1 .1 .1 .1 .1 .1 .1 .1 .1 .1 .1 .1 in
+    let vs = ws .1 .1 .1 .1 .1 .1 .1 .1 .1 .1 .1 .1 .1 .1 .1 in
     RestoredC (source κs a) (destination κs a) (ws .1 .1 .1 .1 .0) (configured κs a) (b .0 .now) (vs .0) (b .1 .0 .now)
     (vs .1 .0) (before κs a) (outs (vs .1 .1 .0) (vs .1 .1 .1 .0) (vs .1 .1 .1 .1 .0)) r
 
@@ -88,15 +90,16 @@ smear-restore-spec 𝓤 H 𝓜 𝓖 𝓡 =
     let to = destination κs a in
     let d = a .1 .1 .1 .1 in
     let s = d .1 .1 .1 .1 in
-    let b = s .1 .1 .1 .1 .1 .1 in
+    let b = s .1 .1 .1 .1 .1 .1 .1 in
     let are-d = are .1 .1 .1 .1 in
     let are-s = are-d .1 .1 .1 .1 in
     starts W 7 parameters (uint w8) κs qs a $
     passes W 0 (settings []) P.config tt tt (s .0 ▸ s .1 .0 ▸ s .1 .1 .0 ▸ s .1 .1 .1 .0 ▸ s .1 .1 .1 .1 .0 ▸ s .1 .1 .1
-    .1 .1 .0 ▸ tt) 𝓣 _ (config.clauses 𝓤 H A (𝓜 .mem) (𝓡 .run)) tt
+    .1 .1 .0 ▸ s .1 .1 .1 .1 .1 .1 .0 ▸ tt) 𝓣 _ (config.clauses 𝓤 H A (𝓜 .mem) (𝓡 .run)) tt
     (cited 𝓤 H _ 𝓜 𝓡 code.env config-def.name config-def.routine code.calls-smear-c·whole-job·job-config
     (config-thm.met 𝓤 H 𝓜 𝓖 𝓡))
-    (are-s .0 ▸ are-s .1 .0 ▸ are-s .1 .1 .0 ▸ are-s .1 .1 .1 .0 ▸ are-s .1 .1 .1 .1 .0 ▸ are-s .1 .1 .1 .1 .1 .0 ▸ tt)
+    (are-s .0 ▸ are-s .1 .0 ▸ are-s .1 .1 .0 ▸ are-s .1 .1 .1 .0 ▸ are-s .1 .1 .1 .1 .0 ▸ are-s .1 .1 .1 .1 .1 .0 ▸
+    are-s .1 .1 .1 .1 .1 .1 .0 ▸ tt)
     (id⊢ 𝓤 _) refl tt refl (λ c _. c ≡ configured κs a) (λ c ws. id⊢ 𝓤 _) (λ c _ e is-c.
     execs ! $ move ! (0 ∷ 1 ∷ 2 ∷ 3 ∷ 4 ∷ 8 ∷ 9 ∷ 10 ∷ 11 ∷ []) $
     -- [locals; tokens 0 to 3; source; destination; scratch; swings; tokens 4 to 6; the out-parameters]
@@ -122,6 +125,6 @@ smear-restore-spec 𝓤 H 𝓜 𝓖 𝓡 =
     (λ r us. id⊢ 𝓤 _) (λ r us given is.
     move ! (0 ∷ 7 ∷ 8 ∷ 9 ∷ 10 ∷ 1 ∷ 2 ∷ 3 ∷ 11 ∷ 12 ∷ 13 ∷ []) $
     finishes W 7 parameters (uint w8) κs qs a _ Answers Kf refl ends r
-    (tt ▸ tt ▸ tt ▸ tt ▸ ds ▸ tt ▸ tt ▸ tt ▸ tt ▸ tt ▸ tt ▸ tt ▸ tt ▸ tt ▸ ss ▸ ys ▸ us .1) is
+    (tt ▸ tt ▸ tt ▸ tt ▸ ds ▸ tt ▸ tt ▸ tt ▸ tt ▸ tt ▸ tt ▸ tt ▸ tt ▸ tt ▸ tt ▸ ss ▸ ys ▸ us .1) is
     (outcome-in-c jobDecided job-told jobOuts
     (subst (λ c. Restored src to ds c (b .0 .now) ss (b .1 .0 .now) ys answer) e restored) given) refl))))

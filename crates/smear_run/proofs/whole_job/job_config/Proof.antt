@@ -15,6 +15,7 @@ returns : tie.Need-returns
 returns c = ap (λ (usual : JobConfig). record {
   «minimum_transitions» = usual .«minimum_transitions»;
   «minimum_amplitude» = usual .«minimum_amplitude»;
+  «minimum_confidence» = 0;
   iterations = c .before .before .args .«record» .iterations;
   relaxation = c .before .before .args .relaxation;
   border = c .before .before .args .«record» .border;

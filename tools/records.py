@@ -1,5 +1,5 @@
-"""The 32-byte record of document 01, "The 32-byte record", with document 02's border (K2): from options, to and from
-bytes, and in words."""
+"""The 32-byte record of document 01, "The 32-byte record", with document 02's border (K2) and angle (K7): from options,
+to and from bytes, and in words."""
 import math
 import struct
 from dataclasses import dataclass
@@ -58,9 +58,12 @@ def q_of(factor):
 
 
 def from_angle(angle):
-    """Document 01, "Direction from an angle": the direction's number for a finite angle."""
-    degrees = math.fmod(angle * 57.29577951308232, 180.0)
-    turns = (degrees + 180.0 if degrees < 0 else degrees) / 45.0
+    """Document 01, "Direction from an angle": the direction's number; None where there is none (document 02, K7)."""
+    degrees = angle * 57.29577951308232
+    if not math.isfinite(degrees):
+        return None
+    rest = math.fmod(degrees, 180.0)
+    turns = (rest + 180.0 if rest < 0 else rest) / 45.0
     return sum(turns >= limit for limit in [0.5, 1.5, 2.5, 3.5]) % 4
 
 
@@ -89,6 +92,8 @@ def length_faults(record):
         yield 7, f"blur length {record.length} is above {most}, which is 2 x the longer side + 1"
     if not math.isfinite(record.angle):
         yield 7, f"angle {record.angle} is not finite"
+    elif from_angle(record.angle) is None:
+        yield 7, f"angle {record.angle!r} has no direction: its value in degrees is not finite"
 
 
 def factor_faults(record):
@@ -169,7 +174,9 @@ def add_options(parser):
         "--length", type=int, metavar="L",
         help="blur length, odd, from 3; without it restoration is the whole job, which measures direction and length",
     )
-    parser.add_argument("--angle", type=float, metavar="RADIANS", help="the smear's angle, with a length (default 0)")
+    parser.add_argument(
+        "--angle", type=float, metavar="RADIANS", help="the smear's angle, with a length, finite in degrees (default 0)"
+    )
     parser.add_argument("--iterations", type=int, metavar="N", help="restoration: 1 to 22 (default 3)")
     parser.add_argument("--relaxation", type=float, metavar="R", help="restoration: 0 to 1 (default 1)")
     parser.add_argument("--gain", type=float, metavar="G", help="line unsharp: 0 to 8 (default 1.5)")

@@ -6,6 +6,9 @@
 //! Time is that of the thread, so that of other work on the machine only what it does to the caches counts.
 
 #[allow(dead_code)]
+#[path = "../../oracle/src/degrees.rs"]
+mod degrees;
+#[allow(dead_code)]
 #[path = "../../bindings/src/raw.rs"]
 mod ffi;
 #[allow(dead_code)]

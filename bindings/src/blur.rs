@@ -1,5 +1,6 @@
 //! Measuring a line smear: its direction and its length.
 
+use crate::error::{answer, ImgProcResult};
 use crate::ffi;
 use crate::raw::Swing;
 use crate::view::Gray8View;
@@ -28,9 +29,12 @@ impl RasterDirection4 {
         }
     }
 
-    /// The direction nearest to an angle.
-    pub fn from_angle(theta_radians: f64) -> Self {
-        Self::from_number(ffi::direction_from_angle(theta_radians))
+    /// The direction nearest to an angle, or `None` where the angle or its value in degrees is not finite.
+    pub fn from_angle(theta_radians: f64) -> Option<Self> {
+        match ffi::direction_from_angle(theta_radians) {
+            4 => None,
+            number => Some(Self::from_number(number)),
+        }
     }
 
     /// The header's number of a direction.
@@ -75,12 +79,17 @@ pub fn estimate_line_direction(src: Gray8View<'_>) -> DirectionEstimate {
 }
 
 /// The length of the line smear along the direction nearest to an angle, or `None` where the picture does not show it.
-pub fn estimate_line_length(src: Gray8View<'_>, theta_radians: f64) -> Option<f64> {
+/// An angle that has no direction is refused, with [`InvalidConfiguration`](crate::ImgProcError::InvalidConfiguration).
+pub fn estimate_line_length(src: Gray8View<'_>, theta_radians: f64) -> ImgProcResult<Option<f64>> {
     estimate_line_length_with(src, theta_radians, &LineLengthConfig::default())
 }
 
 /// Like [`estimate_line_length`], with thresholds.
-pub fn estimate_line_length_with(src: Gray8View<'_>, theta_radians: f64, config: &LineLengthConfig) -> Option<f64> {
+pub fn estimate_line_length_with(
+    src: Gray8View<'_>,
+    theta_radians: f64,
+    config: &LineLengthConfig,
+) -> ImgProcResult<Option<f64>> {
     let mut swings = vec![Swing::default(); src.width() * src.height()];
     let (refusal, length) = ffi::estimate_line_length(
         src,
@@ -89,7 +98,7 @@ pub fn estimate_line_length_with(src: Gray8View<'_>, theta_radians: f64, config:
         config.minimum_amplitude,
         &mut swings,
     );
-    assert_eq!(refusal, 0, "a view has an accepted layout, and there are swings for every pixel");
+    answer(refusal)?;
     // the header's 0.0 is none: a length is positive
-    (length > 0.0).then_some(length)
+    Ok((length > 0.0).then_some(length))
 }

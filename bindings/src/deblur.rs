@@ -35,7 +35,7 @@ impl LineBorderMode {
 /// Settings of the restoration.
 #[derive(Clone, Copy, Debug, PartialEq)]
 pub struct VanCittertConfig {
-    /// The smear's angle, taken to the nearest direction.
+    /// The smear's angle, taken to the nearest direction: its value in degrees is finite.
     pub theta_radians: f64,
     /// Its length in pixels: odd, from 3 to twice the larger side and one.
     pub blur_length: usize,
@@ -48,8 +48,8 @@ pub struct VanCittertConfig {
 }
 
 impl VanCittertConfig {
-    /// The direction that is taken.
-    pub fn raster_direction(&self) -> RasterDirection4 {
+    /// The direction that is taken, or `None` where the angle has none and the restoration is refused.
+    pub fn raster_direction(&self) -> Option<RasterDirection4> {
         RasterDirection4::from_angle(self.theta_radians)
     }
 
@@ -73,7 +73,7 @@ impl Default for VanCittertConfig {
 /// Settings of the line unsharp.
 #[derive(Clone, Copy, Debug, PartialEq)]
 pub struct DirectionalUnsharpConfig {
-    /// The smear's angle, taken to the nearest direction.
+    /// The smear's angle, taken to the nearest direction: its value in degrees is finite.
     pub theta_radians: f64,
     /// Its length in pixels: odd, from 3 to twice the larger side and one.
     pub blur_length: usize,

@@ -30,7 +30,7 @@ pub enum ImgProcError {
     Image(ImageError),
     /// Refusal 6: source and destination differ in size.
     DimensionMismatch,
-    /// Refusals 7 and 8: a setting is out of range or not finite.
+    /// Refusals 7 and 8: a setting is out of range or not finite, or an angle has no direction.
     InvalidConfiguration,
     /// Refusal 9: more than 22 iterations.
     TooManyIterations,

@@ -14,6 +14,7 @@ pub struct Filter {
     pub border: (u8, u8),
 }
 
+/// The direction, or 4 for none.
 pub fn direction_from_angle(angle: f64) -> u8 {
     unsafe { raw::smear_direction_from_angle(angle) }
 }

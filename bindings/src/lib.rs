@@ -1,6 +1,6 @@
 //! The smear stage for Rust: measures the line smear of a grey picture and takes it out.
-//! The work is done by the proved library `libsmear_c`; this crate gives its calls the names and signatures of qr-lab's
-//! `qr-lab-image` and `qr-lab-imgproc`.
+//! The work is done by the proved library `libsmear_c`; this crate gives its calls the names of qr-lab's `qr-lab-image`
+//! and `qr-lab-imgproc`, and their signatures but where an angle may have no direction.
 //!
 //! A caller of qr-lab changes `use` lines:
 //!
@@ -9,6 +9,11 @@
 //! | `qr_lab_image::{Gray8View, Gray8ViewMut}` | `smear::{Gray8View, Gray8ViewMut}` |
 //! | `qr_lab_imgproc::{blur, deblur, sharpen}` | `smear::{blur, deblur, sharpen}` |
 //! | `qr_lab_imgproc::{ImgProcError, ImgProcResult}` | `smear::{ImgProcError, ImgProcResult}` |
+//!
+//! An angle has no direction where it or its value in degrees is not finite, which qr-lab takes for Horizontal. Callers
+//! meet that in the answers: of [`blur::RasterDirection4::from_angle`] and
+//! [`deblur::VanCittertConfig::raster_direction`] an `Option`, of [`blur::estimate_line_length`] and
+//! [`blur::estimate_line_length_with`] a `Result`.
 //!
 //! Added are [`job::restore`], [`deblur::van_cittert_estimate_into`], the border [`deblur::LineBorderMode::Wrap`],
 //! [`summary::summarize`], [`pgm::read`] and [`pgm::write`]. Sides of more than 1,024 pixels and more than 22

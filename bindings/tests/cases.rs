@@ -14,6 +14,8 @@ use smear::summary::{summarize, DirectionSummary, RecordSummary};
 use smear::{Gray8View, Gray8ViewMut, ImgProcError, Size};
 
 const ROW: [u8; 5] = [10, 10, 40, 10, 10];
+/// The last double whose value in degrees is finite.
+const LAST_ANGLE: f64 = 3.1375664143845866e306;
 
 /// Three equal rows that rise by 50 from 0 to 250.
 fn ramp() -> Vec<u8> {
@@ -50,13 +52,28 @@ fn direction_from_an_angle() {
         (0.40, RasterDirection4::DownRight),
         (-1.0, RasterDirection4::DownLeft),
         (3.0, RasterDirection4::Horizontal),
-        (f64::NAN, RasterDirection4::Horizontal),
+        (1e306, RasterDirection4::Vertical),
+        (LAST_ANGLE, RasterDirection4::DownRight),
+        (-LAST_ANGLE, RasterDirection4::DownLeft),
     ];
-    for (angle, direction) in cases {
-        assert_eq!(RasterDirection4::from_angle(angle), direction, "{angle}");
+    for (theta_radians, direction) in cases {
+        assert_eq!(RasterDirection4::from_angle(theta_radians), Some(direction), "{theta_radians}");
+        let config = VanCittertConfig { theta_radians, ..VanCittertConfig::default() };
+        assert_eq!(config.raster_direction(), Some(direction), "{theta_radians}");
     }
-    let steps = [0.0, 0.75, 1.5, 2.25].map(|angle| RasterDirection4::from_angle(angle).step());
+    let steps = [0.0, 0.75, 1.5, 2.25].map(|angle| RasterDirection4::from_angle(angle).unwrap().step());
     assert_eq!(steps, [(1, 0), (1, 1), (0, 1), (-1, 1)]);
+}
+
+/// Document 02, K7: the angle is not finite, or it is and its value in degrees is not.
+#[test]
+fn angles_without_a_direction() {
+    let beyond = f64::from_bits(LAST_ANGLE.to_bits() + 1);
+    for theta_radians in [f64::NAN, f64::INFINITY, f64::NEG_INFINITY, beyond, -beyond, 1e307, f64::MAX, f64::MIN] {
+        assert_eq!(RasterDirection4::from_angle(theta_radians), None, "{theta_radians}");
+        let config = VanCittertConfig { theta_radians, ..VanCittertConfig::default() };
+        assert_eq!(config.raster_direction(), None, "{theta_radians}");
+    }
 }
 
 #[test]
@@ -76,10 +93,10 @@ fn length_of_a_ramp() {
     let with = |minimum_transitions| {
         estimate_line_length_with(src, 0.0, &LineLengthConfig { minimum_transitions, ..LineLengthConfig::default() })
     };
-    assert_eq!(with(3), Some(5.0));
-    assert_eq!(with(4), None);
-    assert_eq!(with(0), None);
-    assert_eq!(estimate_line_length(src, 0.0), None);
+    assert_eq!(with(3), Ok(Some(5.0)));
+    assert_eq!(with(4), Ok(None));
+    assert_eq!(with(0), Ok(None));
+    assert_eq!(estimate_line_length(src, 0.0), Ok(None));
 }
 
 #[test]
@@ -173,7 +190,7 @@ fn the_whole_job() {
     let dst = Gray8ViewMut::new(&mut whole, 60, 60, 60).unwrap();
     let answer = restore(src, dst, &JobConfig::default(), &mut workspace).unwrap();
     assert_eq!((answer.direction, answer.blur_length), (RasterDirection4::Horizontal, 5));
-    assert_eq!(Some(answer.estimate), estimate_line_length(src, 0.0));
+    assert_eq!(Ok(Some(answer.estimate)), estimate_line_length(src, 0.0));
     // the same by the three calls
     let mut parts = vec![0; 60 * 60];
     let dst = Gray8ViewMut::new(&mut parts, 60, 60, 60).unwrap();

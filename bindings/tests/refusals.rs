@@ -4,7 +4,7 @@
 #[path = "../src/raw.rs"]
 mod raw;
 
-use smear::blur::{estimate_line_length_with, LineLengthConfig, RasterDirection4};
+use smear::blur::{estimate_line_length, estimate_line_length_with, LineLengthConfig, RasterDirection4};
 use smear::deblur::{
     directional_unsharp_line_into, van_cittert_estimate_into, van_cittert_line_into, DeblurWorkspace,
     DirectionalUnsharpConfig, VanCittertConfig,
@@ -16,6 +16,19 @@ use smear::summary::summarize;
 use smear::{FaultyRecord, Gray8View, Gray8ViewMut, ImgProcError, ImgProcResult, LumaError, PgmError};
 
 const BYTES: [u8; 5] = [10, 10, 40, 10, 10];
+
+/// Document 02, K7: the last doubles that have a direction.
+const ANGLES: [f64; 3] = [f64::from_bits(0x7f91df46a2529d38), f64::from_bits(0xff91df46a2529d38), 1e306];
+/// The next ones and others that have none.
+const NO_ANGLES: [f64; 7] = [
+    f64::from_bits(0x7f91df46a2529d39),
+    f64::from_bits(0xff91df46a2529d39),
+    f64::MAX,
+    f64::MIN,
+    f64::INFINITY,
+    f64::NEG_INFINITY,
+    f64::NAN,
+];
 
 fn layout(len: usize, width: usize, height: usize, stride: usize) -> Result<(), LumaError> {
     let mut bytes = vec![0; len];
@@ -111,7 +124,7 @@ fn lengths_and_angles() {
         );
     }
     for (theta_radians, answer) in
-        [(f64::MAX, Ok(())), (f64::NAN, invalid), (f64::INFINITY, invalid), (f64::NEG_INFINITY, invalid)]
+        ANGLES.map(|angle| (angle, Ok(()))).into_iter().chain(NO_ANGLES.map(|angle| (angle, invalid)))
     {
         assert_eq!(
             restoration(VanCittertConfig { theta_radians, ..Default::default() }),
@@ -123,6 +136,71 @@ fn lengths_and_angles() {
             answer,
             "angle {theta_radians}"
         );
+    }
+}
+
+/// An angle that has no direction is refused behind sizes that differ, and before iterations and room.
+#[test]
+fn an_angle_among_others() {
+    for theta_radians in NO_ANGLES {
+        let config = VanCittertConfig { theta_radians, iterations: 23, ..Default::default() };
+        assert_eq!(restoration(config), Err(ImgProcError::InvalidConfiguration));
+        let src = Gray8View::new(&BYTES, 5, 1, 5).unwrap();
+        let estimate = van_cittert_estimate_into(src, &mut [], &config, &mut DeblurWorkspace::default());
+        assert_eq!(estimate, Err(ImgProcError::InvalidConfiguration));
+        let differ = call(4, |src, dst| van_cittert_line_into(src, dst, &config, &mut DeblurWorkspace::default()));
+        assert_eq!(differ, Err(ImgProcError::DimensionMismatch));
+    }
+}
+
+#[test]
+fn angles_of_a_length() {
+    let invalid = Err(ImgProcError::InvalidConfiguration);
+    let ramp = [0, 0, 0, 50, 100, 150, 200, 250, 250, 250].repeat(3);
+    let src = Gray8View::new(&ramp, 10, 3, 10).unwrap();
+    // the ramp has at most 6 swings along a direction, and 8 are asked for
+    for angle in ANGLES {
+        assert_eq!(estimate_line_length(src, angle), Ok(None), "{angle}");
+    }
+    for angle in NO_ANGLES {
+        assert_eq!(estimate_line_length(src, angle), invalid, "{angle}");
+        for (minimum_transitions, minimum_amplitude) in [(3, 24), (0, 24), (3, 0)] {
+            let thresholds = LineLengthConfig { minimum_transitions, minimum_amplitude };
+            assert_eq!(estimate_line_length_with(src, angle, &thresholds), invalid, "{angle}");
+        }
+    }
+}
+
+/// What the C call returns for such bytes as a picture, with room for so many swings. A refusal has changed nothing.
+fn length_in_c(bytes: &[u8], [width, height, stride]: [usize; 3], angle: f64, room: usize) -> u8 {
+    let old = raw::Swing { width: 77.0, swing: 77 };
+    let (mut swings, mut length) = (vec![old; room], 77.0);
+    let refusal = unsafe {
+        raw::smear_estimate_line_length(
+            bytes.as_ptr(), bytes.len(), width, height, stride, angle, 8, 24, swings.as_mut_ptr(), room, &mut length,
+        )
+    };
+    assert!(refusal == 0 || length == 77.0 && swings == vec![old; room]);
+    refusal
+}
+
+#[test]
+fn order_of_refusals_of_a_length_in_c() {
+    let bytes = [9; 12];
+    for angle in NO_ANGLES {
+        for room in [0, 3, 4, 11, 12] {
+            assert_eq!(length_in_c(&bytes, [0, 1025, 0], angle, room), 1);
+            assert_eq!(length_in_c(&bytes, [1025, 3, 4], angle, room), 2);
+            assert_eq!(length_in_c(&bytes, [4, 3, 3], angle, room), 3);
+            assert_eq!(length_in_c(&bytes[..11], [4, 3, 4], angle, room), 4);
+            assert_eq!(length_in_c(&bytes, [4, 3, 4], angle, room), 7);
+            // also where a side is too short for a length
+            assert_eq!(length_in_c(&bytes, [2, 2, 2], angle, room), 7);
+        }
+    }
+    for angle in ANGLES {
+        assert_eq!(length_in_c(&bytes, [4, 3, 4], angle, 11), 10);
+        assert_eq!(length_in_c(&bytes, [4, 3, 4], angle, 12), 0);
     }
 }
 
@@ -195,7 +273,7 @@ fn a_length_beyond_the_picture() {
         let dst = Gray8ViewMut::new(&mut out, 100, 100, 100).unwrap();
         let answer = restore(src, dst, &config, &mut JobWorkspace::default());
         assert!(answer.is_ok() || out == vec![77; 100 * 100]);
-        (estimate_line_length_with(src, 0.75, &thresholds).unwrap(), answer)
+        (estimate_line_length_with(src, 0.75, &thresholds).unwrap().unwrap(), answer)
     };
     let (length, answer) = run(&diagonals(0));
     assert!(length > 201.0, "{length}");
@@ -319,6 +397,21 @@ fn records_that_do_not_read() {
         faulty(changed(place, byte));
     }
     faulty([0; 32]);
+}
+
+#[test]
+fn angles_of_records() {
+    let with = |angle: f64| {
+        let mut record = RECORD;
+        record[16..24].copy_from_slice(&angle.to_le_bytes());
+        record
+    };
+    for angle in ANGLES {
+        assert!(summarize(&with(angle)).is_ok(), "{angle}");
+    }
+    for angle in NO_ANGLES {
+        faulty(with(angle));
+    }
 }
 
 #[test]

@@ -1,6 +1,7 @@
 //! One input of one call: it is checked on both sides and, where they differ,
 //! made smaller for as long as they still do.
 
+use crate::degrees::Angle;
 use crate::settings::Border;
 use std::fmt::{self, Debug, Display};
 
@@ -9,6 +10,8 @@ pub enum Verdict {
     Alike,
     /// Alike with a border that the Rust has not: left out of the runs against it.
     Wrap,
+    /// Answered or refused as it must be with an angle that has no direction: left out of the runs against the Rust.
+    NoDirection,
     /// Both refuse, or the document's number is given where the Rust has no such refusal.
     Refused,
     /// Left out by rule: a tie of direction.
@@ -24,6 +27,14 @@ impl Verdict {
             None => Self::Wrap,
         }
     }
+
+    /// Refused in a call with this angle.
+    pub fn refused(radians: f64) -> Self {
+        match Angle::of(radians) {
+            Some(_) => Self::Refused,
+            None => Self::NoDirection,
+        }
+    }
 }
 
 pub trait Case: Clone + Debug {
@@ -32,23 +43,26 @@ pub trait Case: Clone + Debug {
     fn smaller(&self) -> Vec<Self>;
 }
 
-/// How many inputs of a call were answered alike, also with Wrap, were refused as they must be, and were left out.
+/// How many inputs of a call were answered alike, also with Wrap, had an angle without a direction, were refused as
+/// they must be, and were left out.
 pub struct Tally {
     name: &'static str,
     alike: usize,
     wrap: usize,
+    no_direction: usize,
     refused: usize,
     left_out: usize,
 }
 
 impl Tally {
     pub fn new(name: &'static str) -> Self {
-        Self { name, alike: 0, wrap: 0, refused: 0, left_out: 0 }
+        Self { name, alike: 0, wrap: 0, no_direction: 0, refused: 0, left_out: 0 }
     }
 
     pub fn add(&mut self, other: &Self) {
         self.alike += other.alike;
         self.wrap += other.wrap;
+        self.no_direction += other.no_direction;
         self.refused += other.refused;
         self.left_out += other.left_out;
     }
@@ -58,6 +72,7 @@ impl Tally {
         match case.check() {
             Verdict::Alike => self.alike += 1,
             Verdict::Wrap => self.wrap += 1,
+            Verdict::NoDirection => self.no_direction += 1,
             Verdict::Refused => self.refused += 1,
             Verdict::LeftOut => self.left_out += 1,
             Verdict::Differs(_) => {
@@ -71,8 +86,8 @@ impl Tally {
 
 impl Display for Tally {
     fn fmt(&self, f: &mut fmt::Formatter<'_>) -> fmt::Result {
-        let Self { name, alike, wrap, refused, left_out } = self;
-        write!(f, "{name:<28} {alike:>10} {wrap:>10} {refused:>10} {left_out:>10}")
+        let Self { name, alike, wrap, no_direction, refused, left_out } = self;
+        write!(f, "{name:<28} {alike:>10} {wrap:>10} {no_direction:>12} {refused:>10} {left_out:>10}")
     }
 }
 

@@ -1,6 +1,7 @@
 //! The program's stored cases: the two files of each, and what document 01 and the Rust original say that the program
 //! prints; with the border that the Rust has not (document 02, K2) its pixels are a plain restatement's (`line`).
 
+use crate::degrees::{BEYOND, LAST};
 use crate::reader::printed;
 use std::path::Path;
 
@@ -181,6 +182,9 @@ fn filters() -> Vec<Stored> {
             pixels(),
         ),
         case("restoration-down-left-22", Record { angle: -1.0, iterations: 22, q: 65536, border: 1, ..line }, pixels()),
+        // document 02, K7
+        case("restoration-last-angle", Record { angle: LAST, ..line }, pixels()),
+        case("unsharp-last-angle-negated", Record { angle: -LAST, ..sharp }, pixels()),
         case("restoration-q-0", Record { angle: 3.0, q: 0, ..line }, pixels()),
         case("unsharp-vertical-reflect", Record { angle: 1.6, border: 1, q: 524288, ..sharp }, pixels()),
         case(
@@ -242,6 +246,9 @@ fn refusals() -> Vec<Stored> {
         record("record-23-iterations", Record { iterations: 23, ..DOCUMENT }),
         record("record-q-65537", Record { q: 65537, ..DOCUMENT }),
         record("record-angle-infinite", Record { angle: f64::INFINITY, ..DOCUMENT }),
+        // document 02, K7
+        record("record-angle-beyond-degrees", Record { angle: BEYOND, ..DOCUMENT }),
+        record("record-unsharp-angle-largest", Record { angle: f64::MAX, filter: 2, iterations: 0, ..DOCUMENT }),
         record("record-border-4", Record { border: 4, ..DOCUMENT }),
         record("record-wrap-value-7", Record { border: 3, value: 7, ..DOCUMENT }),
         record("record-filter-4", Record { filter: 4, ..DOCUMENT }),

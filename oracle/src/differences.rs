@@ -2,17 +2,21 @@
 //! program is one, in a debug build. C has no views: what they answer here are theorems (`image/proofs/Examples:
 //! smallest-outside, smallest-no-row`), and `bindings/tests` has what the crate for Rust does.
 
+use crate::degrees::{BEYOND, LAST};
 use crate::ffi::{
-    smear_estimate_line_direction, smear_read_pgm, smear_restore, smear_run, smear_summarize,
-    smear_van_cittert_estimate, smear_van_cittert_line, smear_write_pgm, Swing,
+    smear_direction_from_angle, smear_estimate_line_direction, smear_estimate_line_length, smear_read_pgm,
+    smear_restore, smear_run, smear_summarize, smear_van_cittert_estimate, smear_van_cittert_line, smear_write_pgm,
+    Swing,
 };
 use qr_lab_image::{Gray8View, Gray8ViewMut, LumaError};
-use qr_lab_imgproc::blur::{estimate_line_direction, DirectionEstimate, RasterDirection4};
+use qr_lab_imgproc::blur::{
+    estimate_line_direction, estimate_line_length_with, DirectionEstimate, LineLengthConfig, RasterDirection4,
+};
 use qr_lab_imgproc::deblur::{van_cittert_line_into, LineBorderMode, VanCittertConfig};
 use qr_lab_imgproc::ImgProcError;
 use std::panic::{catch_unwind, set_hook, take_hook, AssertUnwindSafe};
 
-const ROWS: [(&str, fn()); 13] = [
+const ROWS: [(&str, fn()); 16] = [
     ("a picture of more than 1,024 pixels a side", sides),
     ("a layout that is refused", layout),
     ("more than 22 iterations", iterations),
@@ -26,6 +30,9 @@ const ROWS: [(&str, fn()); 13] = [
     ("the wrapping border", wrapping),
     ("pictures as PGM", pgm),
     ("the floor of the confidence", floor),
+    ("direction from an angle", snapped),
+    ("length along an angle without a direction", measured),
+    ("line filters along a finite angle without a direction", filtered),
 ];
 
 /// Ends with a panic where a row is not as docs/DIFFERENCES.md has it.
@@ -232,4 +239,39 @@ fn pgm() {
 fn floor() {
     let theirs = their_direction(&[7], 1);
     assert_eq!((theirs.confidence, job_of_one(0), job_of_one(1)), (0.0, 11, 17));
+}
+
+fn snapped() {
+    let ours = |angle| unsafe { smear_direction_from_angle(angle) };
+    for angle in [f64::NAN, BEYOND, -BEYOND] {
+        assert_eq!((RasterDirection4::from_angle(angle), ours(angle)), (RasterDirection4::Horizontal, 4));
+    }
+    // the last angle that has a direction
+    assert_eq!((RasterDirection4::from_angle(LAST), ours(LAST)), (RasterDirection4::DownRight, 1));
+}
+
+/// The Rust's length and our refusal, with thresholds 1 and 1.
+fn lengths(pixels: &[u8], side: usize, angle: f64) -> (Option<f64>, u8) {
+    let view = Gray8View::new(pixels, side, side, side).unwrap();
+    let thresholds = LineLengthConfig { minimum_transitions: 1, minimum_amplitude: 1 };
+    let (mut swings, mut length) = (vec![Swing::default(); pixels.len()], 0.0);
+    let refusal = unsafe {
+        smear_estimate_line_length(
+            pixels.as_ptr(), pixels.len(), side, side, side, angle, 1, 1, swings.as_mut_ptr(), swings.len(),
+            &mut length,
+        )
+    };
+    (estimate_line_length_with(view, angle, &thresholds), refusal)
+}
+
+fn measured() {
+    for angle in [f64::NAN, BEYOND] {
+        assert_eq!(lengths(&[7], 1, angle), (None, 7));
+        assert_eq!(lengths(&[0, 0, 0, 0, 0, 1, 0, 0, 0], 3, angle), (Some(1.0000000000000002), 7));
+    }
+}
+
+fn filtered() {
+    let config = VanCittertConfig { theta_radians: BEYOND, ..Default::default() };
+    assert_eq!((their_row(&[7], config), our_restoration(config, 1, 3)), (Ok(vec![7]), 7));
 }

@@ -5,6 +5,7 @@
 use crate::angle::number;
 use crate::case::{Case, Tally, Verdict};
 use crate::confidence::{crossed, floor, largest, reaches};
+use crate::degrees::Angle;
 use crate::direction::is_tie;
 use crate::ffi::{smear_restore, Swing};
 use crate::lent::{line_scratch, Lent};
@@ -45,7 +46,7 @@ fn odd(estimate: f64) -> usize {
 /// What the whole job measures.
 pub struct Smear {
     pub direction: RasterDirection4,
-    pub theta_radians: f64,
+    pub angle: Angle,
     pub blur_length: usize,
     pub estimate: f64,
 }
@@ -54,18 +55,13 @@ pub struct Smear {
 /// with document 01's rounding of the length and its refusals 11 and 12.
 pub fn measure(source: &Picture, thresholds: &LineLengthConfig) -> Result<Smear, u8> {
     let direction = estimate_line_direction(source.view()).raster_direction;
-    let theta_radians = match direction {
-        RasterDirection4::Horizontal => 0.0,
-        RasterDirection4::DownRight => 0.75,
-        RasterDirection4::Vertical => 1.5,
-        RasterDirection4::DownLeft => 2.25,
-    };
-    let estimate = estimate_line_length_with(source.view(), theta_radians, thresholds).ok_or(11u8)?;
+    let angle = Angle::along(direction);
+    let estimate = estimate_line_length_with(source.view(), angle.radians(), thresholds).ok_or(11u8)?;
     let blur_length = odd(estimate);
     if blur_length > 2 * source.width.max(source.height) + 1 {
         return Err(12);
     }
-    Ok(Smear { direction, theta_radians, blur_length, estimate })
+    Ok(Smear { direction, angle, blur_length, estimate })
 }
 
 impl Job {
@@ -102,9 +98,9 @@ impl Job {
             minimum_transitions: self.minimum_transitions,
             minimum_amplitude: self.minimum_amplitude,
         };
-        let Smear { direction, theta_radians, blur_length, estimate } = measure(s, &thresholds)?;
+        let Smear { direction, angle, blur_length, estimate } = measure(s, &thresholds)?;
         let settings = Settings {
-            angle: theta_radians,
+            angle,
             length: blur_length,
             iterations: self.iterations,
             factor: self.relaxation,

@@ -1,6 +1,8 @@
-//! Length of a smear: Nothing or the estimate's bits, with old records that must not matter.
+//! Length of a smear: Nothing or the estimate's bits, with old records that must not matter; 7 of an angle that has no
+//! direction, for which the Rust is not asked.
 
 use crate::case::{Case, Tally, Verdict};
+use crate::degrees::{far, Angle};
 use crate::ffi::{smear_estimate_line_length, Swing};
 use crate::picture::{size, Picture};
 use crate::random::Random;
@@ -17,6 +19,27 @@ struct Length {
 
 const OLD: Swing = Swing { width: 1e300, swing: 255 };
 
+impl Length {
+    /// The documents' refusals, first match wins.
+    fn refusal(&self) -> u8 {
+        match self.source.refusal() {
+            0 if Angle::of(self.angle).is_none() => 7,
+            0 if self.swings < self.source.width * self.source.height => 10,
+            number => number,
+        }
+    }
+
+    /// The Rust's answer, 0.0 for Nothing.
+    fn theirs(&self) -> f64 {
+        let config = LineLengthConfig {
+            minimum_transitions: self.minimum_transitions,
+            minimum_amplitude: self.minimum_amplitude,
+        };
+        let angle = Angle::of(self.angle).expect("an accepted angle");
+        estimate_line_length_with(self.source.view(), angle.radians(), &config).unwrap_or(0.0)
+    }
+}
+
 impl Case for Length {
     fn check(&self) -> Verdict {
         let s = &self.source;
@@ -28,25 +51,17 @@ impl Case for Length {
                 self.minimum_transitions, self.minimum_amplitude, swings.as_mut_ptr(), swings.len(), &mut length,
             )
         };
-        let refusal = match s.refusal() {
-            0 if self.swings < s.width * s.height => 10,
-            number => number,
-        };
-        if code != refusal {
-            return Verdict::Differs(format!("refusal {code}, not {refusal}"));
+        if code != self.refusal() {
+            return Verdict::Differs(format!("refusal {code}, not {}", self.refusal()));
         }
         if code != 0 {
             return if length == -1.0 && swings.iter().all(|&s| s == OLD) {
-                Verdict::Refused
+                Verdict::refused(self.angle)
             } else {
                 Verdict::Differs("a refusal changed something".into())
             };
         }
-        let config = LineLengthConfig {
-            minimum_transitions: self.minimum_transitions,
-            minimum_amplitude: self.minimum_amplitude,
-        };
-        let theirs = estimate_line_length_with(s.view(), self.angle, &config).unwrap_or(0.0);
+        let theirs = self.theirs();
         if length.to_bits() == theirs.to_bits() {
             return Verdict::Alike;
         }
@@ -72,7 +87,8 @@ fn case(random: &mut Random, width: usize, height: usize) -> Length {
         source: if damaged { source.damaged(random) } else { source },
         angle: match random.below(8) {
             0 => (random.unit() - 0.5) * 20.0,
-            1 => [f64::NAN, f64::INFINITY, -0.0][random.below(3) as usize],
+            1 => far(random),
+            2 => -0.0,
             k => [0.0, 0.75, 1.5, 2.25][k as usize % 4],
         },
         minimum_transitions: [0, 1, 2, 3, 4, 8, 8, 20, usize::MAX][random.below(9) as usize],
@@ -85,6 +101,11 @@ pub fn compare(random: &mut Random, count: usize, tally: &mut Tally) {
     for _ in 0..count {
         let (width, height) = size(random);
         tally.check(case(random, width, height));
+    }
+    // 7 is given where there would be Nothing, and before 10
+    for (side, swings) in [(2, 4), (2, 3), (5, 24), (5, 0)] {
+        let source = Picture::random(random, side, side);
+        tally.check(Length { source, angle: f64::NAN, minimum_transitions: 0, minimum_amplitude: 24, swings });
     }
     for angle in [0.0, 0.75, 1.5, 2.25] {
         for _ in 0..2 {

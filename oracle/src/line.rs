@@ -24,7 +24,8 @@ fn theirs(source: &Picture, destination: &Picture, settings: &Settings, border: 
     let mut bytes = destination.data.clone();
     let Picture { width, height, stride, .. } = *destination;
     let view = Gray8ViewMut::new(&mut bytes, width, height, stride).expect("an accepted layout");
-    let Settings { angle: theta_radians, length: blur_length, iterations, factor, .. } = *settings;
+    let Settings { angle, length: blur_length, iterations, factor, .. } = *settings;
+    let theta_radians = angle.radians();
     let done = if iterations == 0 {
         let config = DirectionalUnsharpConfig { theta_radians, blur_length, gain: factor, border };
         directional_unsharp_line_into(source.view(), view, &config, &mut Default::default())
@@ -49,7 +50,7 @@ fn restated(source: &Picture, destination: &Picture, settings: &Settings) -> Vec
 /// The last estimate, row by row, in 64 bits.
 pub fn estimate(source: &Picture, settings: &Settings) -> Vec<i64> {
     let mut out: Vec<i64> = source.pixels().into_iter().map(i64::from).collect();
-    for places in lines(source.width, source.height, RasterDirection4::from_angle(settings.angle)) {
+    for places in lines(source.width, source.height, settings.angle.direction()) {
         let observed: Vec<i64> = places.iter().map(|&place| out[place]).collect();
         for (&place, value) in places.iter().zip(estimate_of_line(&observed, settings)) {
             out[place] = value;

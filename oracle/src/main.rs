@@ -1,6 +1,7 @@
 //! Compares the proved library with the Rust original: the same inputs, from a seeded generator, through the C
 //! interface. What the original has not is compared with a plain restatement: the sheet (`sheet`), PGM files (`pgm`),
 //! the floor of the whole job (`confidence`), and the line filters with Wrap (`line`), which are counted by themselves.
+//! So are angles that have no direction (`degrees`), with which the original is not run.
 //! Ends with status 1 at the first difference, which it prints as small as it can make it; intended ones are shown
 //! first (`differences`).
 
@@ -9,6 +10,7 @@ mod binomial;
 mod case;
 mod cases;
 mod confidence;
+mod degrees;
 mod differences;
 mod direction;
 #[path = "../../bindings/src/raw.rs"]
@@ -44,7 +46,7 @@ const USAGE: &str = "usage: oracle [--seed N] [--count N] [--only CALL]
 
 type Compare = fn(&mut Random, usize, &mut Tally);
 
-const CALLS: [(&str, Compare); 28] = [
+const CALLS: [(&str, Compare); 30] = [
     ("from_angle", angle::compare),
     ("estimate_line_direction", direction::compare),
     ("estimate_line_length", length::compare),
@@ -58,12 +60,14 @@ const CALLS: [(&str, Compare); 28] = [
     ("smear_run: prefixes", program::prefixes),
     ("smear_run: changed bytes", program::changes),
     ("smear_run: borders", program::borders),
+    ("smear_run: angles", program::angles),
     ("smear_run: random bytes", program::noise),
     ("smear_run: short pictures", program::pictures),
     ("smear_run: room", program::room),
     ("summarize: files", summarize::files),
     ("summarize: changed bytes", summarize::changes),
     ("summarize: borders", summarize::borders),
+    ("summarize: angles", summarize::angles),
     ("summarize: limits", summarize::limits),
     ("summarize: reordered", summarize::reordered),
     ("read_pgm: headers", read_pgm::headers),
@@ -102,7 +106,10 @@ fn main() {
         differences::check();
     }
     let mut all = Tally::new("all but from_angle");
-    println!("{:<28} {:>10} {:>10} {:>10} {:>10}", "call", "alike", "Wrap", "refused", "left out");
+    println!(
+        "{:<28} {:>10} {:>10} {:>12} {:>10} {:>10}",
+        "call", "alike", "Wrap", "no direction", "refused", "left out"
+    );
     for (name, compare) in CALLS.into_iter().filter(|(name, _)| name.starts_with(&only)) {
         let mut tally = Tally::new(name);
         compare(&mut Random::new(seed), count, &mut tally);
@@ -114,6 +121,8 @@ fn main() {
     println!("{all}");
     println!(
         "Wrap: left out of the runs against the Rust, which has no such border; alike with a plain restatement, \
-         and rotated with itself"
+         and rotated with itself\n\
+         no direction: the angle or its value in degrees is not finite; left out of the runs against the Rust, which \
+         has a direction for it: from_angle answers 4, the other calls refuse; such a record counts as refused"
     );
 }

@@ -6,7 +6,7 @@ use crate::ffi::smear_run;
 use crate::picture::{size, Picture};
 use crate::random::Random;
 use crate::reader::printed;
-use crate::record::{job, rows_with_borders};
+use crate::record::{job, rows_with_angles, rows_with_borders};
 use crate::settings::Border;
 
 #[derive(Clone, Debug)]
@@ -141,6 +141,11 @@ pub fn changes(random: &mut Random, count: usize, tally: &mut Tally) {
 /// A record with every border, and others that are none.
 pub fn borders(random: &mut Random, _: usize, tally: &mut Tally) {
     rows_with_borders().for_each(|job| tally.check(Run { job, picture: tight(random, 5, 1, 0), room: ROOM }));
+}
+
+/// A record with the last angles that have a direction, and with angles that have none.
+pub fn angles(random: &mut Random, _: usize, tally: &mut Tally) {
+    rows_with_angles().for_each(|job| tally.check(Run { job, picture: tight(random, 5, 1, 0), room: ROOM }));
 }
 
 /// Records of random bytes, of any length and of 32, and good ones with a few random bytes; random pictures.

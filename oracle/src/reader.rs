@@ -1,5 +1,6 @@
-//! What the program prints, from the documents' words (document 01, "The 32-byte record", and document 02, K2) and
-//! apart from the proved code; the pixels are the Rust's where it has the border, else a plain restatement's (`line`).
+//! What the program prints, from the documents' words (document 01, "The 32-byte record", and document 02, K2 and K7)
+//! and apart from the proved code; the pixels are the Rust's where it has the border, else a plain restatement's
+//! (`line`).
 
 use crate::angle::number;
 use crate::direction::is_tie;
@@ -9,7 +10,6 @@ use crate::picture::Picture;
 use crate::record::{read_job, Task};
 use crate::settings::Settings;
 use qr_lab_image::Gray8ViewMut;
-use qr_lab_imgproc::blur::RasterDirection4;
 use qr_lab_imgproc::sharpen::fixed_binomial_unsharp_into;
 
 /// The pixels of a tight picture, with direction, length and the estimate's bits as the result names them;
@@ -18,12 +18,12 @@ fn answer(source: &Picture, task: Task) -> Result<(Vec<u8>, u8, usize, u64), u8>
     Ok(match task {
         Task::Whole(settings) => {
             let smear = measure(source, &Default::default())?;
-            let settings = Settings { angle: smear.theta_radians, length: smear.blur_length, ..settings };
+            let settings = Settings { angle: smear.angle, length: smear.blur_length, ..settings };
             let pixels = filtered(source, source, &settings);
             (pixels, number(smear.direction), smear.blur_length, smear.estimate.to_bits())
         }
         Task::Line(settings) => {
-            let direction = number(RasterDirection4::from_angle(settings.angle));
+            let direction = number(settings.angle.direction());
             (filtered(source, source, &settings), direction, settings.length, 0)
         }
         Task::Binomial => {

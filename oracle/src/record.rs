@@ -1,6 +1,7 @@
-//! The 32-byte record: read from document 01's words, with document 02's border (K2), and apart from the proved code;
-//! and made up at random. The bench uses this file too.
+//! The 32-byte record: read from document 01's words, with document 02's border (K2) and angle (K7), and apart from the
+//! proved code; and made up at random. The bench uses this file too.
 
+use crate::degrees::{around, far, Angle, LAST};
 use crate::random::Random;
 use crate::settings::{Border, Settings};
 
@@ -26,9 +27,9 @@ fn line_task(bytes: &[u8; 32], longest: usize) -> Option<Task> {
     let (length, iterations) = (short(bytes, 8), short(bytes, 10));
     let q = short(bytes, 12) + 65_536 * short(bytes, 14);
     let angle_bits = bytes[16..24].iter().rev().fold(0, |bits, &byte| bits << 8 | u64::from(byte));
-    let angle = f64::from_bits(angle_bits);
+    let angle = Angle::of(f64::from_bits(angle_bits))?;
     let measured = length == 0 && angle_bits == 0;
-    let stated = length % 2 == 1 && (3..=longest).contains(&length) && angle.is_finite();
+    let stated = length % 2 == 1 && (3..=longest).contains(&length);
     let settings = Settings { angle, length, iterations, factor: q as f64 / 65_536.0, border };
     match bytes[7] {
         1 if !(1..=22).contains(&iterations) || q > 65_536 => None,
@@ -69,13 +70,13 @@ pub fn read(bytes: &[u8]) -> Option<(u8, Task)> {
     }
 }
 
-/// Finite angles of every kind: the four axes, -0.0, any in a few turns, any at all.
+/// Angles that have a direction, of every kind: the four axes, -0.0, any in a few turns, any at all, the last of them.
 fn angle(random: &mut Random) -> f64 {
-    let any = f64::from_bits(random.bits());
+    let any = [f64::from_bits(random.bits()), far(random)][random.below(2) as usize];
     match random.below(8) {
         0 => -0.0,
         1 => (random.unit() - 0.5) * 20.0,
-        2 if any.is_finite() => any,
+        2 if Angle::of(any).is_some() => any,
         k => [0.0, 0.75, 1.5, 2.25][k as usize % 4],
     }
 }
@@ -85,11 +86,30 @@ fn length(random: &mut Random, width: usize, height: usize) -> [u8; 2] {
     (3 + 2 * random.below(width.max(height) as u64) as u16).to_le_bytes()
 }
 
-/// Document 01's row, 5 by 1, with every border's byte: 0 to 5 with every value, the others with 0 and 1.
+/// Document 01's row, 5 by 1.
+const ROW: [u8; 32] =
+    [5, 0, 1, 0, 0, 0, 0, 1, 3, 0, 1, 0, 0, 0, 1, 0, 0, 0, 0, 0, 0, 0, 0, 0, 0, 0, 0, 0, 0, 0, 0, 0];
+
+/// The row with other bytes at a place.
+fn row_with(place: usize, bytes: &[u8]) -> Vec<u8> {
+    let mut row = ROW.to_vec();
+    row[place..place + bytes.len()].copy_from_slice(bytes);
+    row
+}
+
+/// The row with every border's byte: 0 to 5 with every value, the others with 0 and 1.
 pub fn rows_with_borders() -> impl Iterator<Item = Vec<u8>> {
     let values = |border| 0..=if border <= 5 { 255 } else { 1 };
-    let bytes = (0..=255).flat_map(move |border| values(border).map(move |value| (border, value)));
-    bytes.map(|(border, value)| [&[5, 0, 1, 0, 0, border, value, 1, 3, 0, 1, 0, 0, 0, 1, 0][..], &[0; 16]].concat())
+    let bytes = (0..=255).flat_map(move |border| values(border).map(move |value| [border, value]));
+    bytes.map(|bytes| row_with(5, &bytes))
+}
+
+/// The row with the last angles that have a direction and the first that have none, of either sign, by single steps;
+/// and with the smallest and the largest doubles, the infinities and NaN.
+pub fn rows_with_angles() -> impl Iterator<Item = Vec<u8>> {
+    let ends = [0.0, -0.0, f64::from_bits(1), f64::MAX, f64::MIN, f64::INFINITY, f64::NEG_INFINITY, f64::NAN];
+    let angles = around(LAST, 300).chain(around(-LAST, 300)).chain(ends);
+    angles.map(|angle| row_with(16, &angle.to_le_bytes()))
 }
 
 /// A record that is a job, of every filter and border.

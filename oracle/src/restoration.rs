@@ -5,13 +5,13 @@ pub mod rotated;
 
 use crate::angle::number;
 use crate::case::{Case, Tally, Verdict};
+use crate::degrees::{far, Angle};
 use crate::ffi::{smear_directional_unsharp_line, smear_van_cittert_estimate, smear_van_cittert_line};
 use crate::lent::{line_scratch, Lent};
 use crate::line::{estimate, filtered};
 use crate::picture::{size, Picture};
 use crate::random::Random;
 use crate::settings::{border_number, Border, Settings};
-use qr_lab_imgproc::blur::RasterDirection4;
 
 #[derive(Clone, Copy, Debug, PartialEq)]
 pub enum Call {
@@ -40,9 +40,10 @@ const OLD: i32 = 0x5A5A_5A5A;
 const GUARD: i32 = 0x7E7E_7E7E;
 
 impl Filter {
+    /// The settings of an accepted call.
     fn settings(&self) -> Settings {
         Settings {
-            angle: self.angle,
+            angle: Angle::of(self.angle).expect("an accepted angle"),
             length: self.length,
             iterations: if self.call == Call::Unsharp { 0 } else { self.iterations },
             factor: self.factor,
@@ -50,7 +51,7 @@ impl Filter {
         }
     }
 
-    /// Document 01's refusals, first match wins, with document 02's scratch.
+    /// Document 01's refusals, first match wins, with document 02's scratch and its angles.
     fn refusal(&self) -> u8 {
         let (s, d) = (&self.source, &self.destination);
         if s.refusal() != 0 {
@@ -65,7 +66,7 @@ impl Filter {
         if self.length < 3
             || self.length % 2 == 0
             || self.length > 2 * s.width.max(s.height) + 1
-            || !self.angle.is_finite()
+            || Angle::of(self.angle).is_none()
         {
             return 7;
         }
@@ -144,12 +145,16 @@ impl Case for Filter {
                 && estimates.iter().all(|&v| v == OLD)
                 && scratch.is_kept()
                 && direction == 77;
-            return if kept { Verdict::Refused } else { Verdict::Differs("a refusal changed something".into()) };
-        }
-        if direction != number(RasterDirection4::from_angle(self.angle)) {
-            return Verdict::Differs(format!("direction {direction}"));
+            return if kept {
+                Verdict::refused(self.angle)
+            } else {
+                Verdict::Differs("a refusal changed something".into())
+            };
         }
         let settings = self.settings();
+        if direction != number(settings.angle.direction()) {
+            return Verdict::Differs(format!("direction {direction}"));
+        }
         if self.call == Call::Estimate {
             let pixels = self.source.width * self.source.height;
             if estimates[pixels..].iter().any(|&v| v != OLD) {
@@ -205,7 +210,7 @@ fn factor(random: &mut Random, limit: f64) -> f64 {
 
 fn angle(random: &mut Random) -> f64 {
     match random.below(16) {
-        0 => [f64::NAN, f64::INFINITY, f64::NEG_INFINITY][random.below(3) as usize],
+        0 => far(random),
         1..=4 => (random.unit() - 0.5) * 20.0,
         k => [0.0, 0.75, 1.5, 2.25][k as usize % 4],
     }

@@ -1,6 +1,7 @@
 //! What a line filter is told. Document 02 (K2) adds a border that the Rust has not, so these are no types of its own.
 //! The bench uses this file too.
 
+use crate::degrees::Angle;
 use crate::random::Random;
 use qr_lab_imgproc::deblur::LineBorderMode;
 
@@ -51,7 +52,7 @@ pub fn border_number(random: &mut Random) -> u8 {
 /// The settings of a line filter.
 #[derive(Clone, Copy, Debug)]
 pub struct Settings {
-    pub angle: f64,
+    pub angle: Angle,
     pub length: usize,
     /// 0 for the line unsharp, as in a record.
     pub iterations: usize,

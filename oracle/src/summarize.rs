@@ -2,9 +2,10 @@
 //! against the plain restatement in `sheet`; the Rust original has no such call. Then good files in another order.
 
 use crate::case::{Case, Tally, Verdict};
+use crate::degrees::{far, LAST};
 use crate::ffi::smear_summarize;
 use crate::random::Random;
-use crate::record::{job, listed, rows_with_borders};
+use crate::record::{job, listed, rows_with_angles, rows_with_borders};
 use crate::sheet::{sheet, MOST_RECORDS, NUMBERS};
 use std::fmt;
 
@@ -165,7 +166,7 @@ fn doubtful(random: &mut Random) -> Vec<u8> {
             out[8..10].copy_from_slice(&u16::to_le_bytes(length));
         }
         3 => {
-            let double = [-0.0, -1.0, f64::MIN, f64::INFINITY, f64::NEG_INFINITY, f64::NAN][random.below(6) as usize];
+            let double = [-0.0, -1.0, f64::MIN, LAST, far(random), far(random)][random.below(6) as usize];
             let place = [16, 24][random.below(2) as usize];
             out[place..place + 8].copy_from_slice(&f64::to_le_bytes(double));
         }
@@ -213,6 +214,11 @@ pub fn changes(random: &mut Random, inputs: usize, tally: &mut Tally) {
 /// A record with every border, and others that are none.
 pub fn borders(_: &mut Random, _: usize, tally: &mut Tally) {
     rows_with_borders().for_each(|record| tally.check(File { records: Records(record), room: NUMBERS }));
+}
+
+/// A record with the last angles that have a direction, and with angles that have none.
+pub fn angles(_: &mut Random, _: usize, tally: &mut Tally) {
+    rows_with_angles().for_each(|record| tally.check(File { records: Records(record), room: NUMBERS }));
 }
 
 /// Files about the most records, each with the index of the fault that the document's own words state.

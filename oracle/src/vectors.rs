@@ -4,10 +4,11 @@
 mod chosen;
 
 use crate::angle::number;
+use crate::degrees::Angle;
 use crate::direction;
 use crate::picture::Picture;
 use qr_lab_image::{Gray8View, Gray8ViewMut, LumaError};
-use qr_lab_imgproc::blur::{self, LineLengthConfig, RasterDirection4};
+use qr_lab_imgproc::blur::{self, LineLengthConfig};
 use qr_lab_imgproc::deblur::{self, DirectionalUnsharpConfig, LineBorderMode, VanCittertConfig};
 use qr_lab_imgproc::{sharpen, ImgProcError};
 use std::collections::BTreeMap;
@@ -86,10 +87,15 @@ impl Case {
         }
     }
 
+    /// The angle, of which the Rust is asked.
+    fn angle(&self) -> Angle {
+        Angle::of(self.angle).expect("the list has no angle without a direction")
+    }
+
     /// The Rust's answer: the number, what was found, and the length; pixels go to `bytes`.
     fn call(&self, bytes: &mut [u8]) -> Result<(u8, f64), u8> {
         if self.call == Call::FromAngle {
-            return Ok((number(RasterDirection4::from_angle(self.angle)), 0.0));
+            return Ok((number(self.angle().direction()), 0.0));
         }
         let (s, d) = (&self.source, &self.destination);
         let view = Gray8View::new(&s.data, s.width, s.height, s.stride).map_err(layout)?;
@@ -98,11 +104,11 @@ impl Case {
         }
         if self.call == Call::Length {
             let config = LineLengthConfig { minimum_transitions: self.count, minimum_amplitude: self.amplitude };
-            let estimate = blur::estimate_line_length_with(view, self.angle, &config);
+            let estimate = blur::estimate_line_length_with(view, self.angle().radians(), &config);
             return Ok((estimate.is_some() as u8, estimate.unwrap_or(0.0)));
         }
         let target = Gray8ViewMut::new(bytes, d.width, d.height, d.stride).map_err(|_| 5)?;
-        let (theta_radians, blur_length, border) = (self.angle, self.length, self.border);
+        let (theta_radians, blur_length, border) = (self.angle().radians(), self.length, self.border);
         let metadata = match self.call {
             Call::Restoration => {
                 let config = VanCittertConfig {

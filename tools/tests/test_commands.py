@@ -71,6 +71,25 @@ class Commands(unittest.TestCase):
         self.assertIn("refused 13", self.run_tool("record", "make", *size, *valued, status=1))
         self.assertIn("no-such-file", self.run_tool("record", "show", "no-such-file", status=1))
 
+    def test_angles(self):
+        # document 02, K7
+        made = ["record", "make", "--width", "5", "--height", "1", "--length", "3", "--angle"]
+        self.run_tool(*made, "3.1375664143845866e306")
+        job = self.file("job.rec")
+        self.assertEqual(job[16:24], bytes.fromhex("389D52A246DF917F"))
+        self.assertIn("direction  DownRight, from the angle", self.run_tool("record", "show", "job.rec"))
+        refused = "angle 3.137566414384587e+306 has no direction: its value in degrees is not finite\n"
+        said = self.run_tool(*made, "3.137566414384587e306", "--out", "none.rec", status=1)
+        self.assertEqual(said, f"record: refused 7: {refused}")
+        self.assertFalse(os.path.exists(os.path.join(self.folder, "none.rec")))
+        self.file("job.rec", job[:16] + bytes.fromhex("399D52A246DF917F") + job[24:])
+        self.assertEqual(self.run_tool("record", "show", "job.rec", status=1), f"record: refused 13: {refused}")
+        self.file("row.pgm", b"P2 5 1 255\n10 10 40 10 10\n")
+        options = ["--length", "3", "--angle", "3.137566414384587e306"]
+        said = self.run_tool("restore", "row.pgm", "out.pgm", *options, status=1)
+        self.assertEqual(said, f"restore: refused 7: {refused}")
+        self.assertFalse(os.path.exists(os.path.join(self.folder, "out.pgm")))
+
     def test_sheet(self):
         self.file("round.rec", b"".join(RESULTS))
         self.assertEqual(self.run_tool("record", "sheet", "round.rec"), SHEET)
@@ -88,10 +107,13 @@ class Commands(unittest.TestCase):
     def test_what_a_sheet_refuses(self):
         unread = RESULTS[0][:5] + b"\4" + RESULTS[0][6:]
         valued = RESULTS[1][:6] + b"\7" + RESULTS[1][7:]
+        # document 02, K7
+        far = RESULTS[0][:16] + bytes.fromhex("399D52A246DF917F") + RESULTS[0][24:]
         for bad, why in [
             (RESULTS[0][:31], "it does not read: a record has 32 bytes, not 31\n05 00 01 00 00 00 00 01 03 00"),
             (unread, "it does not read: border 4 is not in 0..3\n05 00 01 00 00 04 00 01 03 00"),
             (valued, "it does not read: a border value stands without the constant border\n05 00 01 00 00 03 07 01"),
+            (far, "it does not read: angle 3.137566414384587e+306 has no direction: its value in degrees is not"),
             (WHOLE_JOB, "a job without a length has no place on the sheet\njob: the whole job"),
         ]:
             # a later fault does not matter

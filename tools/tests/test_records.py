@@ -1,5 +1,7 @@
 """Records: bytes written out by hand from the documents, limits at both sides, and each way to break the layout."""
 import argparse
+import math
+import sys
 import unittest
 
 import records
@@ -12,6 +14,8 @@ RESULT = bytes.fromhex("4000 4000 02 00 00 01 0700 0300 00000100 000000000000000
 # gain 1.5 is q 98,304; angle 1.5 is 3FF8 0000 0000 0000; constant border 7
 UNSHARP = bytes.fromhex("0500 0100 00 02 07 02 0300 0000 00800100 000000000000F83F 0000000000000000")
 BINOMIAL = bytes.fromhex("0500 0100 00 00 00 03" + 24 * "00")
+# document 02, K7: the last double that has a direction, 7F91 DF46 A252 9D38
+LAST_ANGLE = 3.1375664143845866e306
 # document 02, K2: the row with the wrapping border, which is 3 and has no value
 WRAP = bytes.fromhex("0500 0100 00 03 00 01 0300 0100 00000100" + 16 * "00")
 
@@ -55,23 +59,32 @@ class Records(unittest.TestCase):
 
     def test_directions_of_angles(self):
         self.assertEqual([records.from_angle(angle) for angle in [0.39, 0.40, -1.0, 3.0]], [0, 1, 3, 0])
+        # document 02, K7
+        self.assertEqual([records.from_angle(angle) for angle in [1e306, LAST_ANGLE, -LAST_ANGLE]], [2, 1, 3])
+        for angle in [math.nextafter(LAST_ANGLE, math.inf), 1e307, sys.float_info.max, math.inf, math.nan]:
+            self.assertEqual([records.from_angle(angle), records.from_angle(-angle)], [None, None])
 
     def test_limits(self):
         for accepted in [
             (1024, 1), (1, 1024), (5, 1, "--length", "11"), (5, 1, "--iterations", "22"), (5, 1, "--relaxation", "0"),
             (5, 1, "--filter", "unsharp", "--length", "3", "--gain", "8"),
+            (5, 1, "--length", "3", "--angle", "3.1375664143845866e306"),
         ]:
             self.assertEqual(len(job(*accepted)), 32)
         for number, refused in [
             (1, (0, 1)), (1, (1, 0)), (2, (1025, 1)), (2, (1, 1025)),
             (7, (5, 1, "--length", "13")), (7, (5, 1, "--length", "4")), (7, (5, 1, "--length", "1")),
             (7, (5, 1, "--length", "3", "--angle", "nan")), (7, (5, 1, "--length", "3", "--angle", "inf")),
+            (7, (5, 1, "--length", "3", "--angle", "3.137566414384587e306")),
+            (7, (5, 1, "--length", "3", "--angle=-1e307")),
+            (7, (5, 1, "--filter", "unsharp", "--length", "3", "--angle", "1e308")),
             (8, (5, 1, "--iterations", "0")), (9, (5, 1, "--iterations", "23")),
             (8, (5, 1, "--relaxation", "1.0000001")),
             (8, (5, 1, "--relaxation", "nan")), (8, (5, 1, "--relaxation", "-0.1")),
             (8, (5, 1, "--filter", "unsharp", "--length", "3", "--gain", "8.1")),
             # the first match wins
             (1, (0, 2000)), (1, (0, 1, "--length", "4")), (7, (5, 1, "--length", "4", "--iterations", "0")),
+            (7, (5, 1, "--length", "3", "--angle", "1e307", "--iterations", "0")),
             (8, (5, 1, "--iterations", "23", "--relaxation", "2")),
         ]:
             self.refuses(number, job, *refused)
@@ -117,6 +130,21 @@ class Records(unittest.TestCase):
             (16, infinite), (16, no_number), (24, infinite), (24, no_number), (24, minus_zero), (24, minus_one),
         ]:
             self.breaks(ROW, place, there)
+
+    def test_broken_angles(self):
+        # the double behind the last that has a direction, and the largest
+        for data in [ROW, RESULT, UNSHARP]:
+            for positive in ["399D52A246DF917F", "FFFFFFFFFFFFEF7F"]:
+                self.breaks(data, 16, positive)
+                self.breaks(data, 16, positive[:-2] + "FF")
+        last = bytes.fromhex("389D52A246DF917F")
+        record = records.read(ROW[:16] + last + ROW[24:])
+        self.assertEqual((record.angle, records.write(record)[16:24]), (LAST_ANGLE, last))
+        self.assertIn(
+            "job\n  picture    5 by 1 pixels\n  filter     restoration, 1 iteration, relaxation 1 (q 65536)\n"
+            "  border     replicate\n  direction  DownRight, from the angle 3.1375664143845866e+306\n",
+            records.words(record),
+        )
 
     def test_broken_whole_jobs(self):
         for place, there in [(4, "01"), (16, "01"), (16, "0000000000000080"), (24, "01")]:

@@ -74,6 +74,9 @@ class Refusals(unittest.TestCase):
         even = ROW.replace(b"\3\0\1", b"\4\0\1")
         self.refusal(5, even, "it does not read: blur length 4 is even\n05 00 01 00 00 00 00 01 04 00")
         self.refusal(0, ROW[:3], "it does not read: a record has 32 bytes, not 3\n05 00 01")
+        # 1e307, whose bits are 7FAC 7B1F 3CAC 7433
+        far = ROW[:16] + bytes.fromhex("3374AC3C1F7BAC7F") + ROW[24:]
+        self.refusal(2, far, "it does not read: angle 1e+307 has no direction: its value in degrees is not finite\n05")
 
     def test_whole_job(self):
         self.refusal(7, WHOLE_JOB, "a job without a length has no place on the sheet\njob: the whole job")

@@ -1,4 +1,5 @@
-// Call sites as a caller of qr-lab has them. This file is included twice, and only the `use` lines before it differ.
+// Call sites as a caller of qr-lab has them. This file is included twice. The lines before it differ: the `use` lines,
+// and what is made of a direction or a length that an angle might not have (`direction_of`, `length_of`).
 // Answers are texts, so that those of two crates can be compared.
 
 use crate::settings::Settings;
@@ -38,11 +39,16 @@ pub fn direction(p: &Picture) -> String {
     format!("{:?} {:?}", estimate.raster_direction, estimate.raster_direction.step())
 }
 
+pub fn snapped(s: &Settings) -> String {
+    let direction = direction_of(blur::RasterDirection4::from_angle(s.angle));
+    format!("{direction:?} {:?}", direction.step())
+}
+
 pub fn lengths(p: &Picture, s: &Settings) -> String {
     let thresholds =
         blur::LineLengthConfig { minimum_transitions: s.minimum_transitions, minimum_amplitude: s.minimum_amplitude };
-    let with = blur::estimate_line_length_with(view(p), s.angle, &thresholds);
-    let usual = blur::estimate_line_length(view(p), s.angle);
+    let with = length_of(blur::estimate_line_length_with(view(p), s.angle, &thresholds));
+    let usual = length_of(blur::estimate_line_length(view(p), s.angle));
     format!("{:?} {:?}", with.map(f64::to_bits), usual.map(f64::to_bits))
 }
 
@@ -72,7 +78,7 @@ pub fn restored(p: &Picture, dst: &Picture, s: &Settings, workspace: &mut deblur
     };
     let answer =
         written(dst, |out| Ok(format!("{:?}", deblur::van_cittert_line_into(view(p), out, &config, workspace)?)));
-    format!("{answer} {:?}", config.raster_direction())
+    format!("{answer} {:?}", direction_of(config.raster_direction()))
 }
 
 pub fn unsharpened(p: &Picture, dst: &Picture, s: &Settings, workspace: &mut deblur::DeblurWorkspace) -> String {

@@ -1,7 +1,10 @@
 //! The same call sites, compiled against the Rust original and against this crate,
-//! give the same answers on random pictures.
+//! give the same answers on random pictures, for angles that have a direction.
 //! Usage: compare [SEED]. Ends with status 1 at the first difference.
 
+#[allow(dead_code)]
+#[path = "../../../oracle/src/degrees.rs"]
+mod degrees;
 #[allow(dead_code)]
 #[path = "../../../oracle/src/picture.rs"]
 mod picture;
@@ -12,15 +15,34 @@ mod settings;
 mod theirs {
     use qr_lab_image::{Gray8View, Gray8ViewMut};
     use qr_lab_imgproc::{blur, deblur, sharpen, ImgProcResult};
+
+    fn direction_of(answer: blur::RasterDirection4) -> blur::RasterDirection4 {
+        answer
+    }
+
+    fn length_of(answer: Option<f64>) -> Option<f64> {
+        answer
+    }
+
     include!("calls.rs");
 }
 
 mod ours {
     use smear::{blur, deblur, sharpen, ImgProcResult};
     use smear::{Gray8View, Gray8ViewMut};
+
+    fn direction_of(answer: Option<blur::RasterDirection4>) -> blur::RasterDirection4 {
+        answer.expect("an angle that has a direction")
+    }
+
+    fn length_of(answer: ImgProcResult<Option<f64>>) -> Option<f64> {
+        answer.expect("an angle that has a direction")
+    }
+
     include!("calls.rs");
 }
 
+use degrees::Angle;
 use picture::{size, Picture};
 use random::Random;
 use settings::{Settings, WRAP};
@@ -46,7 +68,7 @@ fn main() {
     let mut random = Random::new(seed);
     let (mut their_scratch, mut our_scratch) = Default::default();
     let (mut their_room, mut our_room) = Default::default();
-    let (mut found, mut accepted, mut left_out) = (0, 0, 0);
+    let (mut found, mut accepted, mut with_wrap, mut without_direction) = (0, 0, 0, 0);
     same("defaults", 0, theirs::defaults(), ours::defaults());
     for number in 0..PICTURES {
         let (width, height) = match number % 2 {
@@ -65,14 +87,19 @@ fn main() {
         if !is_tie(&src) {
             same("estimate_line_direction", number, theirs::direction(&src), ours::direction(&src));
         }
-        let (theirs, ours) = (theirs::lengths(&src, &settings), ours::lengths(&src, &settings));
-        found += theirs.contains("Some") as usize;
-        same("estimate_line_length", number, theirs, ours);
         let (theirs, ours) =
             (theirs::sharpened(&src, &dst, &mut their_room), ours::sharpened(&src, &dst, &mut our_room));
         same("fixed_binomial_unsharp_into", number, theirs, ours);
+        if Angle::of(settings.angle).is_none() {
+            without_direction += 1;
+            continue;
+        }
+        same("from_angle", number, theirs::snapped(&settings), ours::snapped(&settings));
+        let (theirs, ours) = (theirs::lengths(&src, &settings), ours::lengths(&src, &settings));
+        found += theirs.contains("Some") as usize;
+        same("estimate_line_length", number, theirs, ours);
         if settings.border == WRAP {
-            left_out += 1;
+            with_wrap += 1;
             continue;
         }
         let (theirs, ours) = (
@@ -89,6 +116,7 @@ fn main() {
     }
     println!(
         "compare: the same call sites give the Rust's answers on {PICTURES} pictures \
-         ({found} lengths, {accepted} restorations; the line filters of {left_out} with Wrap left out)"
+         ({found} lengths, {accepted} restorations; left out are the line filters of {with_wrap} with Wrap, and what \
+         takes an angle of {without_direction} with one that has no direction)"
     );
 }

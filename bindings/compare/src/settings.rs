@@ -1,5 +1,6 @@
 //! Settings at random, some at and beyond a limit.
 
+use crate::degrees::far;
 use crate::random::Random;
 
 /// The border that document 02 (K2) adds: the Rust's type has no such word, so no call site of both can say it.
@@ -20,7 +21,7 @@ pub struct Settings {
 impl Settings {
     pub fn random(random: &mut Random, side: usize) -> Self {
         let angle = match random.below(10) {
-            0 => [f64::NAN, f64::INFINITY, f64::NEG_INFINITY][random.below(3) as usize],
+            0 => far(random),
             1 => (random.unit() - 0.5) * 20.0,
             k => [0.0, 0.75, 1.5, 2.25][k as usize % 4],
         };

@@ -1,5 +1,5 @@
 -- From a scan's records to the call's answer: what the selection asks of them, and what a call answers and leaves.
-use mathlib.Core.Path.{_≡_, sym, _∙_, ap, subst}
+use mathlib.Core.Path.{_≡_, refl, sym, _∙_, ap, subst}
 use mathlib.Core.Bool.{not}
 use mathlib.Core.List.{List}
 use Prim.Native.Nat.{ℕ, _*_, _≤_, _<_}
@@ -8,9 +8,10 @@ use native.Mathlib.Omega.{arith}
 use lib.Dec.{T}
 use lib.Ieee.{isNan}
 use lib.ListN.{length, take}
-use Rattle.image.specs.Call.{gray8}
+use Rattle.image.specs.Call.{Gray8, gray8}
 use Rattle.image.proofs.Call.{decided-none, decided-refuses, outcome-refused, outcome-accepted}
 use Rattle.raster.specs.declared.direction.RasterDirection4.{RasterDirection4}
+use Rattle.raster.specs.declared.direction.SnappedDirection.the-variants.{Nothing}
 use Rattle.swings.specs.declared.Swing.{Swing}
 use Rattle.swings.specs.declared.scan.Scan.{Scan}
 use Rattle.swings.specs.declared.scan.Span.{Span}
@@ -22,8 +23,15 @@ use Rattle.swings.specs.Swings.{strongest}
 use Rattle.blur.specs.Median.{lengthOf}
 use Rattle.blur.specs.Select.{Widths, started, SelectAsked}
 use Rattle.blur.specs.Length.{lengthRefusal, lengthAlong, lengthDecision, lengthAnswer, scanPlan, LengthMeasured}
+use Rattle.blur.specs.Length.{undirectedRefusal, SnappedMeasured}
 use Rattle.blur.proofs.Spans.{span-numbers}
 use Rattle.blur.proofs.ScanPlans.{length-laid, enough-lent, pixels-fit, plan-length, plan-few, plan-widths}
+
+-- where the angle has no direction
+pub undirected-refused : (src : Gray8) (m a : ℕ) (ys : List Swing) (r : LengthAnswer)
+    → r ≡ Refused (undirectedRefusal (length (src .bytes)) (src .width) (src .height) (src .stride))
+    → SnappedMeasured src Nothing m a ys ys r
+undirected-refused src m a ys r e = outcome-refused lengthAnswer _ _ _ _ refl e
 
 module _ (bytes : List ℕ) (w h stride : ℕ) (d : RasterDirection4) (m a : ℕ) (ys : List Swing) where
   abbrev number : ℕ

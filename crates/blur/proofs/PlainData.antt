@@ -1,7 +1,9 @@
--- The thresholds, the selection's state and the answer as plain data of a walk (`walks/proofs/Data`).
+-- The thresholds, the selection's state, the answer and directions as plain data of a walk (`walks/proofs/Data`).
 use Rattle.walks.proofs.Data.{Data, struct, enum}
 use Rattle.raster.proofs.direction.RasterDirection4 as D
 use Rattle.raster.proofs.direction.RasterDirection4.Laws as D′
+use Rattle.raster.proofs.direction.SnappedDirection as S
+use Rattle.raster.proofs.direction.SnappedDirection.Laws as S′
 use Rattle.blur.proofs.select.Pass as P
 use Rattle.blur.proofs.select.Pass.Laws as P′
 use Rattle.blur.proofs.length.LineLengthConfig as C
@@ -21,3 +23,6 @@ answer = enum R.the-type R′.the-laws tt R′.the-plain
 
 abbrev pub direction : Data
 direction = enum D.the-type D′.the-laws tt D′.the-plain
+
+abbrev pub snapped : Data
+snapped = enum S.the-type S′.the-laws tt S′.the-plain

@@ -1,15 +1,18 @@
 -- The length depends on the pixels alone: not on the stride, nor on bytes between the rows or behind the last one, nor
--- on old records (`length-same`, `measured-same`).
+-- on old records (`length-same`, `snapped-same`, `measured-same`).
 use mathlib.Core.List.{List}
 use mathlib.Core.Path.{_≡_, refl, ap}
 use mathlib.Core.Bool.{cond}
 use Prim.Native.Nat.{ℕ}
 use native.Mathlib.Omega.{arith}
 use lib.ListN.{length}
-use Rattle.image.specs.Call.{Gray8}
+use Rattle.image.specs.Call.{Gray8, refuses}
+use Rattle.image.specs.Refusal.{firstRefusal}
 use Rattle.image.specs.Same.{SamePicture}
 use Rattle.image.proofs.Same.{layout-same, answers-alike}
 use Rattle.raster.specs.declared.direction.RasterDirection4.{RasterDirection4}
+use Rattle.raster.specs.declared.direction.SnappedDirection.{SnappedDirection}
+use Rattle.raster.specs.declared.direction.SnappedDirection.the-variants as snapped
 use Rattle.raster.specs.Lines.{lineCount, colAt, rowAt}
 use Rattle.raster.proofs.Place.{one-line}
 use Rattle.swings.specs.declared.Swing.{Swing}
@@ -18,7 +21,7 @@ use Rattle.blur.specs.declared.length.LengthAnswer.{LengthAnswer}
 use Rattle.blur.specs.declared.length.LineLength.the-variants.{Nothing}
 use Rattle.swings.specs.Line.{linesOf, stepPixels}
 use Rattle.blur.specs.Median.{lengthOf}
-use Rattle.blur.specs.Length.{tooLittle, lengthAlong, lengthDecision, LengthMeasured}
+use Rattle.blur.specs.Length.{tooLittle, lengthAlong, lengthDecision, snappedDecision, SnappedMeasured}
 use Rattle.swings.proofs.SameSwings.{swings-same}
 
 module _ {a b : Gray8} (same : SamePicture a b) (d : RasterDirection4) (transitions amplitude : ℕ) where
@@ -40,9 +43,16 @@ module _ {a b : Gray8} (same : SamePicture a b) (d : RasterDirection4) (transiti
   unfolding lengthDecision
   length-same e = rw (e, along-same, layout-same same, same .same-width, same .same-height)
 
+module _ {a b : Gray8} (same : SamePicture a b) (transitions amplitude : ℕ) where
+  pub snapped-same : (s : SnappedDirection) {lent lent′ : ℕ} → lent ≡ lent′
+      → snappedDecision a s transitions amplitude lent ≡ snappedDecision b s transitions amplitude lent′
+  snapped-same (snapped.Found d) e = length-same same d transitions amplitude e
+  snapped-same snapped.Nothing e =
+      ap (λ (n : ℕ). refuses (firstRefusal n 7)) (layout-same same)
+
   -- whatever the old records hold
-  pub measured-same : {swings swings₁ swings′ swings₁′ : List Swing} {answer answer′ : LengthAnswer}
-      → length swings ≡ length swings′ → LengthMeasured a d transitions amplitude swings swings₁ answer
-      → LengthMeasured b d transitions amplitude swings′ swings₁′ answer′
-      → answer ≡ answer′
-  measured-same e = answers-alike (length-same e)
+  pub measured-same : (s : SnappedDirection) {swings swings₁ swings′ swings₁′ : List Swing}
+      {answer answer′ : LengthAnswer} → length swings ≡ length swings′
+      → SnappedMeasured a s transitions amplitude swings swings₁ answer
+      → SnappedMeasured b s transitions amplitude swings′ swings₁′ answer′ → answer ≡ answer′
+  measured-same s e = answers-alike (snapped-same s e)

@@ -8,6 +8,8 @@ use lib.ListN.{length}
 use Rattle.image.specs.Call.{Gray8, Decision, accepts, refuses, decided, Outcome}
 use Rattle.image.specs.Refusal.{layoutRefusal, firstRefusal}
 use Rattle.raster.specs.declared.direction.RasterDirection4.{RasterDirection4}
+use Rattle.raster.specs.declared.direction.SnappedDirection.{SnappedDirection}
+use Rattle.raster.specs.declared.direction.SnappedDirection.the-variants as snapped
 use Rattle.raster.specs.Lines.{lineCount, placeStep}
 use Rattle.swings.specs.declared.Swing.{Swing}
 use Rattle.swings.specs.declared.scan.ScanPlan.{ScanPlan}
@@ -54,6 +56,23 @@ LengthMeasured src d transitions amplitude swings swings′ answer =
     Outcome (lengthDecision src d transitions amplitude (length swings)) lengthAnswer (λ _ _ _. Unit {0}) (tt {0})
     (tt {0})
     swings swings′ answer
+
+-- ---- the length along the direction of an angle (document 02, K7: "Length estimates .. meet the new answer and give 7
+-- in its usual place")
+
+-- 1 to 4 of the layout, then 7, where there is no direction
+abbrev pub undirectedRefusal : ℕ → ℕ → ℕ → ℕ → ℕ
+undirectedRefusal len w h stride = firstRefusal (layoutRefusal len w h stride) 7
+
+abbrev pub snappedDecision : Gray8 → SnappedDirection → ℕ → ℕ → ℕ → Decision LineLength
+snappedDecision src (snapped.Found d) transitions amplitude lent = lengthDecision src d transitions amplitude lent
+snappedDecision src snapped.Nothing transitions amplitude lent =
+    refuses (undirectedRefusal (length (src .bytes)) (src .width) (src .height) (src .stride))
+
+abbrev pub SnappedMeasured : Gray8 → SnappedDirection → ℕ → ℕ → List Swing → List Swing → LengthAnswer → Type 0
+SnappedMeasured src s transitions amplitude swings swings′ answer =
+    Outcome (snappedDecision src s transitions amplitude (length swings)) lengthAnswer (λ _ _ _. Unit {0})
+    (tt {0}) (tt {0}) swings swings′ answer
 
 -- ---- what is scanned
 

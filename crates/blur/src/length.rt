@@ -3,11 +3,13 @@ ghost use mathlib.Core.Path.{_≡_};
 ghost use Rattle.image.specs.Call.{gray8};
 ghost use Rattle.swings.specs.Line.{stepPixels};
 ghost use Rattle.blur.specs.Length.{lengthRefusal, tooLittle, scanPlan, defaults, LengthMeasured};
+ghost use Rattle.blur.specs.Length.{undirectedRefusal, SnappedMeasured};
 ghost use Rattle.raster.specs.Direction.{fromAngle};
 use crate::records::select;
 use crate::select::opened;
 use image::layout_refusal;
 use raster::direction::RasterDirection4;
+use raster::direction::SnappedDirection;
 use raster::lines::line_count;
 use raster::lines::place_step;
 use swings::Swing;
@@ -169,6 +171,17 @@ pub fn estimate_along(
     select(swings, opened(s), minimum_transitions)
 }
 
+// What is refused where the angle has no direction: 1 to 4 of the layout, and else 7.
+fn undirected(bytes: usize, width: usize, height: usize, stride: usize) -> LengthAnswer
+    ensures { λ r. ⌜ r ≡ LengthAnswer.Refused (undirectedRefusal bytes width height stride) ⌝ }
+{
+    let own = layout_refusal(bytes, width, height, stride);
+    if own != 0 {
+        return LengthAnswer::Refused(own);
+    }
+    LengthAnswer::Refused(7)
+}
+
 // The length along the direction nearest to an angle.
 pub fn estimate_line_length_with(
     data: &[u8],
@@ -179,15 +192,18 @@ pub fn estimate_line_length_with(
     config: LineLengthConfig,
     swings: &mut [Swing],
 ) -> LengthAnswer
-    ensures { λ r. ⌜ LengthMeasured (gray8 (now («data» .entry)) width height stride) (fromAngle «theta_radians»)
+    ensures { λ r. ⌜ SnappedMeasured (gray8 (now («data» .entry)) width height stride) (fromAngle «theta_radians»)
         (config .«minimum_transitions») (config .«minimum_amplitude») (now (swings .entry)) (now (swings .exit)) r ⌝ }
 {
+    let SnappedDirection::Found(direction) = RasterDirection4::from_angle(theta_radians) else {
+        return undirected(data.len(), width, height, stride);
+    };
     estimate_along(
         data,
         width,
         height,
         stride,
-        RasterDirection4::from_angle(theta_radians),
+        direction,
         config.minimum_transitions,
         config.minimum_amplitude,
         swings,
@@ -203,7 +219,7 @@ pub fn estimate_line_length(
     theta_radians: f64,
     swings: &mut [Swing],
 ) -> LengthAnswer
-    ensures { λ r. ⌜ LengthMeasured (gray8 (now («data» .entry)) width height stride) (fromAngle «theta_radians»)
+    ensures { λ r. ⌜ SnappedMeasured (gray8 (now («data» .entry)) width height stride) (fromAngle «theta_radians»)
         (defaults .«minimum_transitions») (defaults .«minimum_amplitude»)
         (now (swings .entry)) (now (swings .exit)) r ⌝ }
 {

@@ -19,7 +19,8 @@ use Rattle.image.specs.Refusal.{layoutRefusal, pairRefusal, Laid}
 use Rattle.image.proofs.Determined.{outcome-determines}
 use Rattle.image.proofs.Refusal.{laid}
 use Rattle.image.proofs.Pair.{laid-pair}
-use Rattle.raster.specs.declared.direction.RasterDirection4.{RasterDirection4}
+use Rattle.raster.specs.declared.direction.SnappedDirection.{SnappedDirection}
+use Rattle.raster.specs.declared.direction.SnappedDirection.the-variants.{Found, Nothing}
 use Rattle.deblur.specs.declared.RestorationAnswer.the-variants.{Refused}
 use Rattle.deblur.specs.Before.{
   scratchBefore,
@@ -31,6 +32,7 @@ use Rattle.deblur.specs.Before.{
 }
 use Rattle.deblur.specs.Calls.{
   restorationAnswer,
+  decidedAlong,
   filterDecision,
   filterWrites,
   Filtered,
@@ -81,8 +83,9 @@ module _ {R A D S N : Type 0} (size : S → N) (was is : N → Decision R) (answ
 -- ---- restoration and line unsharp
 
 -- the answer 10 of a call that decides by a number
-ten-answered : {n : ℕ} (d : RasterDirection4) → n ≡ 10 → restorationAnswer (decided n d) ≡ Refused 10
-ten-answered d e = ap (λ (n : ℕ). restorationAnswer (decided n d)) e
+ten-answered : {n : ℕ} (s : SnappedDirection) → n ≡ 10 → restorationAnswer (decidedAlong n s) ≡ Refused 10
+ten-answered (Found d) e = ap (λ (n : ℕ). restorationAnswer (decided n d)) e
+ten-answered Nothing e = ap Refused e
 
 module _ (src : Gray8) (f : LineFilter) where
   abbrev w : ℕ
@@ -93,11 +96,11 @@ module _ (src : Gray8) (f : LineFilter) where
 
   -- the number of a call whose pictures have a refusal, where what is lent was and is too short by a test each
   same-number : (pictures : ℕ) (was is : Bool) → (pictures ≡ 0 → was ≡ false → is ≡ false)
-      → (restorationAnswer (decided (inOrder pictures (f .refusal w h) was) (f .direction)) ≡ Refused 10 → ⊥)
-      → decided (inOrder pictures (f .refusal w h) is) (f .direction)
-      ≡ decided (inOrder pictures (f .refusal w h) was) (f .direction)
+      → (restorationAnswer (decidedAlong (inOrder pictures (f .refusal w h) was) (f .direction)) ≡ Refused 10 → ⊥)
+      → decidedAlong (inOrder pictures (f .refusal w h) is) (f .direction)
+      ≡ decidedAlong (inOrder pictures (f .refusal w h) was) (f .direction)
   same-number pictures was is enough not-ten =
-      ap (λ (k : ℕ). decided k (f .direction))
+      ap (λ (k : ℕ). decidedAlong k (f .direction))
       (order-as-before pictures (f .refusal w h) was is enough (λ e. not-ten (ten-answered (f .direction) e)))
 
   module _ (dst : Gray8) where

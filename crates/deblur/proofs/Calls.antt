@@ -1,6 +1,6 @@
 -- The calls along lines from their refusals, whatever they write to: what an accepted one has (`accepted`) and asks of
 -- the lines (`asked`), and its contract where it refuses (`refused`) and where it is done (`done`).
-use mathlib.Core.Path.{_≡_, refl, sym, ap, _∙_}
+use mathlib.Core.Path.{_≡_, refl, sym, _∙_}
 use mathlib.Core.List.{List}
 use Prim.Native.Nat.{ℕ, _*_, _≤_}
 use native.Mathlib.Omega.{arith}
@@ -8,9 +8,9 @@ use lib.Dec.{T}
 use lib.IntN.{ℤ}
 use lib.ListN.{length}
 use Rattle.floats.specs.Factor.{maxRelaxation, maxGain, within}
-use Rattle.image.specs.Call.{Gray8, decided, Outcome}
+use Rattle.image.specs.Call.{Gray8, Decision, accepts, Outcome}
 use Rattle.image.specs.Refusal.{maxSide, Laid}
-use Rattle.image.proofs.Call.{refused-by, accepted-by}
+use Rattle.image.proofs.Call.{outcome-refused, outcome-accepted}
 use Rattle.image.proofs.Pair.{destination-laid}
 use Rattle.raster.specs.declared.direction.RasterDirection4.{RasterDirection4}
 use Rattle.line.specs.declared.kernel.LineKernel.{LineKernel}
@@ -18,12 +18,15 @@ use Rattle.line.specs.Kernel.{KernelAsked}
 use Rattle.deblur.specs.declared.DirectionalUnsharpConfig.{DirectionalUnsharpConfig}
 use Rattle.deblur.specs.declared.RestorationAnswer.{RestorationAnswer}
 use Rattle.deblur.specs.declared.RestorationAnswer.the-variants.{Done, Refused}
+use Rattle.deblur.specs.declared.RestorationMetadata.{RestorationMetadata}
 use Rattle.deblur.specs.declared.VanCittertConfig.{VanCittertConfig}
-use Rattle.deblur.specs.Calls.{restorationAnswer, filterNumber, filterWrites, estimateNumber, estimateWrites}
+use Rattle.deblur.specs.Calls.{restorationAnswer, decidedAlong, filterNumber, filterWrites, estimateNumber}
+use Rattle.deblur.specs.Calls.{estimateWrites}
 use Rattle.deblur.specs.Lines.{AlongAsked}
 use Rattle.deblur.specs.Refusal.{scratchNeeded}
 use Rattle.deblur.specs.Settings.{LineFilter, restorationOf, unsharpOf}
 use Rattle.deblur.proofs.Along.{factor-small, restoration-kernel, unsharp-kernel}
+use Rattle.deblur.proofs.Decided.{along-accepts, answer-done, answer-refused}
 use Rattle.deblur.proofs.Refusals.{restoration-taken, unsharp-taken, filter-accepted, estimate-accepted}
 
 -- ---- accepted settings: their factor has a q, and their kernel is taken
@@ -117,24 +120,32 @@ estimateCall src old f scratch =
           };
     }
 
--- n is the refusal's number
-pub record Told {D : Type 0} (call : LineCall D) (n : ℕ) : Type 0 where
-  pub is : n ≡ call .number
+-- what it decides
+abbrev decision : {D : Type 0} → LineCall D → Decision RasterDirection4
+decision call = decidedAlong (call .number) (call .filter .direction)
+
+-- its answer, as it is told before it writes
+pub record Told {D : Type 0} (call : LineCall D) (answer : RestorationAnswer) : Type 0 where
+  pub is : answer ≡ restorationAnswer (decision call)
 
 -- the call's contract
 abbrev Contract : {D : Type 0} → LineCall D → D → List ℤ → RestorationAnswer → Type 0
 Contract call new scratch′ answer =
-    Outcome (decided (call .number) (call .filter .direction)) restorationAnswer (call .writes (call .filter .kernel))
-    (call .old) new (call .scratch) scratch′ answer
+    Outcome (decision call) restorationAnswer (call .writes (call .filter .kernel)) (call .old) new (call .scratch)
+    scratch′ answer
 
-module _ {D : Type 0} {call : LineCall D} {n : ℕ} (t : Told call n) where
-  pub refused : (n ≡ 0 → ⊥) → Contract call (call .old) (call .scratch) (Refused n)
-  refused some = refused-by (call .filter .direction) restorationAnswer (call .writes (call .filter .kernel))
-      (call .old) (call .scratch) n (sym (t .is)) some refl
+module _ {D : Type 0} {call : LineCall D} {answer : RestorationAnswer} (t : Told call answer) where
+  pub refused : {n : ℕ} → answer ≡ Refused n → Contract call (call .old) (call .scratch) answer
+  refused {n} e =
+      outcome-refused restorationAnswer (call .writes (call .filter .kernel)) (call .old) (call .scratch) n
+      (answer-refused (decision call) n (sym (t .is) ∙ e)) e
 
-  module _ (none : n ≡ 0) where
+  module _ {m : RestorationMetadata} (e : answer ≡ Done m) where
+    accepts-it : decision call ≡ accepts (m .«raster_direction»)
+    accepts-it = answer-done (decision call) m (sym (t .is) ∙ e)
+
     pub accepted : Accepted (call .src) (call .filter) (length (call .scratch)) (call .Room)
-    accepted = call .takes (sym (t .is) ∙ none)
+    accepted = call .takes (along-accepts (call .number) (call .filter .direction) _ accepts-it .0)
 
     pub asked : Sound (call .filter) → {kernel : LineKernel} → kernel ≡ call .filter .kernel
         → AlongAsked (length (call .src .bytes)) (call .src .width) (call .src .height) (call .src .stride) kernel
@@ -150,10 +161,8 @@ module _ {D : Type 0} {call : LineCall D} {n : ℕ} (t : Told call n) where
           a .room,
         )
 
-    pub done : {new : D} {scratch′ : List ℤ} {d : RasterDirection4} {kernel : LineKernel}
-        → d ≡ call .filter .direction → kernel ≡ call .filter .kernel → call .writes kernel d (call .old) new
-        → Contract call new scratch′ (Done (record { «raster_direction» = d }))
-    done i k w =
-        accepted-by (call .filter .direction) restorationAnswer (call .writes (call .filter .kernel))
-        (call .old) (call .scratch) _ _ (sym (t .is) ∙ none)
-        (ap (λ (d : RasterDirection4). Done (record { «raster_direction» = d })) i) (rw (i, k) at w)
+    pub done : {new : D} {scratch′ : List ℤ} {kernel : LineKernel} → kernel ≡ call .filter .kernel
+        → call .writes kernel (m .«raster_direction») (call .old) new → Contract call new scratch′ (Done m)
+    done k w =
+        outcome-accepted restorationAnswer (call .writes (call .filter .kernel)) (call .old) (call .scratch)
+        (m .«raster_direction») _ _ accepts-it refl (rw k at w)

@@ -1,6 +1,6 @@
 -- The line filters are given each number in its condition and otherwise never (`restoration-exactly`,
 -- `unsharp-exactly`, `estimate-exactly`), and 0 exactly where they are accepted (`filter-iff`, `estimate-iff`), their
--- settings included (`restoration-iff`, `unsharp-iff`).
+-- settings included (`restoration-iff`, `unsharp-iff`), and never as a refusal (`filter-never-0`, `estimate-never-0`).
 use Prim.Native.Nat.{ℕ, _*_, _%_}
 use mathlib.Core.Bool.{Bool, true, false, not}
 use mathlib.Core.List.{List}
@@ -8,20 +8,22 @@ use mathlib.Core.Logic.{_↔_}
 use mathlib.Core.Path.{_≡_, ap}
 use borrow.Author.Tests.{le-ltb, not-true}
 use lib.Ieee.{Float}
-use lib.Ieee.Scale.{finite}
 use lib.ListN.{length}
 use Rattle.floats.specs.Factor.{maxRelaxation, maxGain, within}
-use Rattle.image.specs.Call.{Gray8, numberOf}
+use Rattle.image.specs.Call.{Gray8, refuses, numberOf}
 use Rattle.image.specs.Conditions.{Refusal, FirstMatch, Exactly}
-use Rattle.image.proofs.Conditions.{Numbered, match-none, match-test, not-given, match-then, decided-exactly}
+use Rattle.image.proofs.Conditions.{Numbered, match-none, match-test, match-unless, not-given, match-then, exactly}
 use Rattle.image.proofs.Conditions.{layout-matches, layout-numbered, pair-matches, pair-numbered}
 use Rattle.image.proofs.Pair.{accepted-pair}
 use Rattle.image.specs.Refusal.{pairRefusal}
+use Rattle.raster.specs.Direction.{isFound}
+use Rattle.raster.specs.declared.direction.SnappedDirection.{SnappedDirection}
+use Rattle.raster.proofs.Snapped.{not-found-iff}
 use Rattle.line.specs.Kernel.{maxIterations, maxBlurLength}
 use Rattle.numbers.proofs.Test.{eqb-iff, ltb-iff, or-iff}
 use Rattle.deblur.specs.declared.VanCittertConfig.{VanCittertConfig}
 use Rattle.deblur.specs.declared.DirectionalUnsharpConfig.{DirectionalUnsharpConfig}
-use Rattle.deblur.specs.Calls.{filterDecision, estimateDecision}
+use Rattle.deblur.specs.Calls.{decidedAlong, filterDecision, estimateDecision}
 use Rattle.deblur.specs.Conditions.{
   lineConditions,
   factorConditions,
@@ -34,7 +36,6 @@ use Rattle.deblur.specs.Conditions.{
 use Rattle.deblur.specs.Refusal.{
   scratchNeeded,
   blurLengthRefusal,
-  angleRefusal,
   factorRefusal,
   iterationsRefusal,
   lineRefusal,
@@ -50,6 +51,7 @@ use Rattle.deblur.specs.Refusal.{
   EstimateAccepted,
 }
 use Rattle.deblur.specs.Settings.{LineFilter, restorationOf, unsharpOf}
+use Rattle.deblur.proofs.Decided.{number-along, never-0}
 use Rattle.deblur.proofs.Refusals.{first-0, line-0, factor-0, iterated-0, restoration-taken, unsharp-taken}
 use Rattle.deblur.proofs.Refusals.{order-0, order-ten, filter-accepted, estimate-accepted, accepted-estimate}
 
@@ -60,13 +62,13 @@ not-iff t = (not-true t, λ e. ap not e)
 
 line-matches : (width height L : ℕ) (angle : Float)
     → FirstMatch (lineConditions width height L angle) (lineRefusal width height L angle)
-unfolding blurLengthRefusal angleRefusal
+unfolding blurLengthRefusal
 line-matches width height L angle =
     match-then
     (match-test 7 match-none
     (or-iff _ _ (or-iff _ _ (ltb-iff L 3) (eqb-iff (L % 2) 0)) (ltb-iff (maxBlurLength width height) L)))
     (tt, tt)
-    (match-test 7 match-none (not-iff (finite angle)))
+    (match-unless 7 match-none (not-found-iff angle))
 
 factor-matches : (limit : ℕ) (factor : Float)
     → FirstMatch (factorConditions limit factor) (factorRefusal limit factor)
@@ -103,7 +105,7 @@ module _ (width height : ℕ) where
       → (restorationRefusal width height config ≡ 0) ↔ RestorationTaken width height config
   restoration-iff config = (
     restoration-taken width height config,
-    λ t. first-0 (line-0 width height (config .«theta_radians») (t .length-taken) (t .angle-finite))
+    λ t. first-0 (line-0 width height (config .«theta_radians») (t .length-taken) (t .direction-found))
         (iterated-0 (config .relaxation) (config .iterations) (t .relaxation-taken) (t .iterations-taken)),
   )
 
@@ -111,7 +113,7 @@ module _ (width height : ℕ) where
       → (unsharpRefusal width height config ≡ 0) ↔ UnsharpTaken width height config
   unsharp-iff config = (
     unsharp-taken width height config,
-    λ t. first-0 (line-0 width height (config .«theta_radians») (t .length-taken) (t .angle-finite))
+    λ t. first-0 (line-0 width height (config .«theta_radians») (t .length-taken) (t .direction-found))
         (factor-0 maxGain (config .gain) (t .gain-taken)),
   )
 
@@ -123,6 +125,10 @@ module _ (width height : ℕ) where
   unsharp-other config = not-given (unsharp-matches config) 10 (tt, (tt, (tt, tt)))
 
 -- ---- the calls
+
+along-exactly : {rs : List Refusal} {n : ℕ} → FirstMatch rs n → (s : SnappedDirection)
+    → Exactly rs (numberOf (decidedAlong n s))
+along-exactly m s = exactly (rw (number-along _ s) m)
 
 module _ (src : Gray8) (f : LineFilter) (settings : List Refusal)
     (m : FirstMatch settings (f .refusal (src .width) (src .height))) (ok : Numbered settings) (scratchLen : ℕ) where
@@ -142,7 +148,7 @@ module _ (src : Gray8) (f : LineFilter) (settings : List Refusal)
       (numberOf (filterDecision src dst f scratchLen))
   unfolding filterRefusal
   filter-exactly dst =
-      decided-exactly
+      along-exactly
       (match-then
       (pair-matches len w h (src .stride) (length (dst .bytes)) (dst .width) (dst .height) (dst .stride))
       (pair-numbered len w h (src .stride) (length (dst .bytes)) (dst .width) (dst .height) (dst .stride))
@@ -154,7 +160,7 @@ module _ (src : Gray8) (f : LineFilter) (settings : List Refusal)
       (numberOf (estimateDecision src dstLen f scratchLen))
   unfolding estimateRefusal
   estimates-exactly dstLen =
-      decided-exactly
+      along-exactly
       (match-then (layout-matches len w h (src .stride)) (layout-numbered len w h (src .stride))
       (match-then m ok
       (match-test 10 match-none (or-iff _ _ (ltb-iff dstLen (w * h)) (ltb-iff scratchLen (scratchNeeded w h))))))
@@ -218,3 +224,23 @@ module _ (len width height stride dstLen settings scratchLen : ℕ) where
     estimate-accepted len width height stride dstLen settings scratchLen,
     accepted-estimate len width height stride dstLen settings scratchLen,
   )
+
+-- ---- settings that are not refused have a direction, so that no call is refused with 0
+
+abbrev Directed : LineFilter → Type 0
+Directed f = (width height : ℕ) → f .refusal width height ≡ 0 → isFound (f .direction) ≡ true
+
+pub restoration-directed : (config : VanCittertConfig) → Directed (restorationOf config)
+restoration-directed config width height e = restoration-taken width height config e .direction-found
+
+pub unsharp-directed : (config : DirectionalUnsharpConfig) → Directed (unsharpOf config)
+unsharp-directed config width height e = unsharp-taken width height config e .direction-found
+
+module _ (src : Gray8) (f : LineFilter) (directed : Directed f) (scratchLen : ℕ) where
+  pub filter-never-0 : (dst : Gray8) → filterDecision src dst f scratchLen ≡ refuses 0 → ⊥
+  filter-never-0 dst =
+      never-0 _ (f .direction) (λ e. directed _ _ (filter-accepted _ _ _ _ _ _ _ _ _ _ e .settings-taken))
+
+  pub estimate-never-0 : (dstLen : ℕ) → estimateDecision src dstLen f scratchLen ≡ refuses 0 → ⊥
+  estimate-never-0 dstLen =
+      never-0 _ (f .direction) (λ e. directed _ _ (estimate-accepted _ _ _ _ _ _ _ e .settings-taken))

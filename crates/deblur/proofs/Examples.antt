@@ -3,7 +3,7 @@ use mathlib.Core.Path.{_≡_, refl}
 use mathlib.Core.List.{List, [], _∷_, map}
 use Prim.Native.Nat.{ℕ}
 use lib.IntN.{ℤ, pos, negsuc}
-use lib.Ieee.{binary64, ofBits}
+use lib.Ieee.{binary64, ofBits, mul}
 use lib.ListN.{replicate}
 use Rattle.numbers.specs.Scalar.{clampByte}
 use Rattle.numbers.specs.Sum.{total}
@@ -12,6 +12,7 @@ use Rattle.image.specs.Call.{Gray8, gray8}
 use Rattle.image.specs.Refusal.{layoutRefusal, pairRefusal}
 use Rattle.image.specs.Picture.{pixel}
 use Rattle.raster.specs.Border.{borderMap}
+use Rattle.raster.specs.Direction.{fromAngle}
 use Rattle.raster.specs.Lines.{startCol, startRow, lineOf}
 use Rattle.raster.specs.declared.border.LineBorderMode.the-variants.{Replicate, Constant, Wrap}
 use Rattle.raster.specs.declared.direction.RasterDirection4.the-variants.{Horizontal, DownRight, DownLeft}
@@ -22,7 +23,7 @@ use Rattle.deblur.specs.declared.VanCittertConfig.{VanCittertConfig}
 use Rattle.deblur.specs.Before.{filterNumberBefore}
 use Rattle.deblur.specs.Calls.{filterNumber}
 use Rattle.deblur.specs.Picture.{estimate, estimateOn}
-use Rattle.deblur.specs.Refusal.{blurLengthRefusal, angleRefusal, factorRefusal, iterationsRefusal}
+use Rattle.deblur.specs.Refusal.{blurLengthRefusal, factorRefusal, iterationsRefusal}
 use Rattle.deblur.specs.Refusal.{restorationRefusal, unsharpRefusal, filterRefusal, estimateRefusal}
 use Rattle.deblur.specs.Settings.{vanCittertDefault, restorationOf}
 
@@ -100,23 +101,33 @@ plain length iterations = restorationRefusal 5 1 (restoring 0 length iterations 
 
 -- on 5 by 1, length 11 is accepted, 13 gives 7
 lengths : map (λ (length : ℕ). plain length 3) (1 ∷ 2 ∷ 3 ∷ 4 ∷ 11 ∷ 12 ∷ 13 ∷ []) ≡ 7 ∷ 7 ∷ 0 ∷ 7 ∷ 0 ∷ 7 ∷ 7 ∷ []
-unfolding plain restoring blurLengthRefusal angleRefusal factorRefusal iterationsRefusal within ofBits
+unfolding plain restoring blurLengthRefusal fromAngle factorRefusal iterationsRefusal within ofBits mul
 lengths = refl
 
--- the largest finite angle, infinity, not a number
+-- the last angle with a direction, the next double, the largest, infinity, not a number (document 02, K7)
 angles :
     map (λ (angle : ℕ). restorationRefusal 5 1 (restoring angle 3 3 0))
-    (0x7fef_ffff_ffff_ffff ∷ 0x7ff0_0000_0000_0000 ∷ 0x7ff8_0000_0000_0000 ∷ [])
-    ≡ 0 ∷ 7 ∷ 7 ∷ []
-unfolding restoring blurLengthRefusal angleRefusal factorRefusal iterationsRefusal within ofBits
+    (0x7f91_df46_a252_9d38
+    ∷ 0x7f91_df46_a252_9d39
+    ∷ 0x7fef_ffff_ffff_ffff
+    ∷ 0x7ff0_0000_0000_0000
+    ∷ 0x7ff8_0000_0000_0000
+    ∷ [])
+    ≡ 0 ∷ 7 ∷ 7 ∷ 7 ∷ 7 ∷ []
+unfolding restoring blurLengthRefusal fromAngle factorRefusal iterationsRefusal within ofBits mul
 angles = refl
+
+-- 7 of the angle stands before 8
+angle-first : restorationRefusal 5 1 (restoring 0x7f91_df46_a252_9d39 3 0 0x7ff8_0000_0000_0000) ≡ 7
+unfolding restoring blurLengthRefusal fromAngle factorRefusal iterationsRefusal within ofBits mul
+angle-first = refl
 
 -- relaxation −0.0, 1.0, the next double above it, not a number
 relaxations :
     map (λ (relaxation : ℕ). restorationRefusal 5 1 (restoring 0 3 3 relaxation))
     (0x8000_0000_0000_0000 ∷ 0x3ff0_0000_0000_0000 ∷ 0x3ff0_0000_0000_0001 ∷ 0x7ff8_0000_0000_0000 ∷ [])
     ≡ 0 ∷ 0 ∷ 8 ∷ 8 ∷ []
-unfolding restoring blurLengthRefusal angleRefusal factorRefusal iterationsRefusal within ofBits
+unfolding restoring blurLengthRefusal fromAngle factorRefusal iterationsRefusal within ofBits mul
 relaxations = refl
 
 -- gain 8.0 and the next
@@ -126,17 +137,17 @@ sharpening gain =
 
 gains : map (λ (gain : ℕ). unsharpRefusal 5 1 (sharpening gain)) (0x4020_0000_0000_0000 ∷ 0x4020_0000_0000_0001 ∷ [])
     ≡ 0 ∷ 8 ∷ []
-unfolding sharpening blurLengthRefusal angleRefusal factorRefusal within ofBits
+unfolding sharpening blurLengthRefusal fromAngle factorRefusal within ofBits mul
 gains = refl
 
 -- 22 iterations are accepted, 23 give 9
 iteration-limits : map (plain 3) (0 ∷ 1 ∷ 22 ∷ 23 ∷ []) ≡ 8 ∷ 0 ∷ 0 ∷ 9 ∷ []
-unfolding plain restoring blurLengthRefusal angleRefusal factorRefusal iterationsRefusal within ofBits
+unfolding plain restoring blurLengthRefusal fromAngle factorRefusal iterationsRefusal within ofBits mul
 iteration-limits = refl
 
 -- 8 comes before 9
 factor-first : restorationRefusal 5 1 (restoring 0 3 23 0x7ff8_0000_0000_0000) ≡ 8
-unfolding restoring blurLengthRefusal angleRefusal factorRefusal iterationsRefusal within ofBits
+unfolding restoring blurLengthRefusal fromAngle factorRefusal iterationsRefusal within ofBits mul
 factor-first = refl
 
 -- 10 on 5 by 1: scratch of 14 and 15, an estimate's destination of 4 and 5
@@ -158,21 +169,21 @@ black = gray8 (replicate 15 0) 5 3 5
 
 scratch-before : map (filterNumberBefore black black (restorationOf vanCittertDefault)) (14 ∷ 15 ∷ 44 ∷ 45 ∷ [])
     ≡ 10 ∷ 10 ∷ 10 ∷ 0 ∷ []
-unfolding black vanCittertDefault pairRefusal layoutRefusal blurLengthRefusal angleRefusal factorRefusal
-    iterationsRefusal within ofBits
+unfolding black vanCittertDefault pairRefusal layoutRefusal blurLengthRefusal fromAngle factorRefusal
+    iterationsRefusal within ofBits mul
 scratch-before = refl
 
 scratch-now : map (filterNumber black black (restorationOf vanCittertDefault)) (14 ∷ 15 ∷ 44 ∷ 45 ∷ [])
     ≡ 10 ∷ 0 ∷ 0 ∷ 0 ∷ []
-unfolding black vanCittertDefault filterRefusal pairRefusal layoutRefusal blurLengthRefusal angleRefusal factorRefusal
-    iterationsRefusal within ofBits
+unfolding black vanCittertDefault filterRefusal pairRefusal layoutRefusal blurLengthRefusal fromAngle factorRefusal
+    iterationsRefusal within ofBits mul
 scratch-now = refl
 
 -- 7 comes before 8; 7, 8 and 9 before 10; 4 before all of them
 in-order : map (λ (settings : ℕ). filterRefusal 5 5 1 5 5 5 1 5 settings 14) (plain 2 0 ∷ plain 3 0 ∷ plain 3 23 ∷ [])
     ≡ 7 ∷ 8 ∷ 9 ∷ []
-unfolding filterRefusal pairRefusal layoutRefusal plain restoring blurLengthRefusal angleRefusal factorRefusal
-    iterationsRefusal within ofBits
+unfolding filterRefusal pairRefusal layoutRefusal plain restoring blurLengthRefusal fromAngle factorRefusal
+    iterationsRefusal within ofBits mul
 in-order = refl
 
 layout-first : filterRefusal 4 5 1 5 5 5 1 5 7 14 ≡ 4

@@ -3,6 +3,7 @@ pub mod Along
 pub mod Before
 pub mod Calls
 pub mod Conditions
+pub mod Decided
 pub mod Determined
 pub mod Drum
 pub mod Examples

@@ -2,24 +2,24 @@
 use Prim.Native.Nat.{ℕ, zero, suc, _*_, _%_, _<_}
 use native.Mathlib.Nat.{pos-of-ne-zero, zero-lt-suc}
 use native.Mathlib.Omega.{arith}
-use mathlib.Core.Bool.{Bool, true, false, not, cond, _||_, or-true}
+use mathlib.Core.Bool.{Bool, true, false, not, _||_, or-true}
 use mathlib.Core.Logic.{_⊎_, inl, inr, ⊎-elim}
 use mathlib.Core.Path.{_≡_, refl}
 use lib.Dec.{eqb, ltb}
 use lib.Ieee.{Float}
-use lib.Ieee.Scale.{finite}
 use borrow.Author.Tests.{eq-eqb, ne-eqb, lt-ltb, le-ltb, eqb-false, ltb-false, not-false}
 use Rattle.numbers.proofs.Nat.{even-or-odd}
 use Rattle.numbers.proofs.Test.{or-false-intro, or-false-left, or-false-right}
 use Rattle.floats.specs.Factor.{maxRelaxation, maxGain, within}
 use Rattle.image.specs.Refusal.{layoutRefusal, pairRefusal, firstRefusal}
-use Rattle.image.proofs.Chain.{cond-zero, first-zero, first-own}
+use Rattle.image.proofs.Chain.{cond-zero, cond-left, first-zero, first-own}
 use Rattle.image.proofs.Refusal.{laid, accepted}
 use Rattle.image.proofs.Pair.{laid-pair}
+use Rattle.raster.specs.Direction.{fromAngle, isFound, angleRefusal}
 use Rattle.line.specs.Kernel.{maxIterations, maxBlurLength}
 use Rattle.deblur.specs.declared.DirectionalUnsharpConfig.{DirectionalUnsharpConfig}
 use Rattle.deblur.specs.declared.VanCittertConfig.{VanCittertConfig}
-use Rattle.deblur.specs.Refusal.{blurLengthRefusal, angleRefusal, factorRefusal, iterationsRefusal}
+use Rattle.deblur.specs.Refusal.{blurLengthRefusal, factorRefusal, iterationsRefusal}
 use Rattle.deblur.specs.Refusal.{iteratedRefusal, scratchNeeded}
 use Rattle.deblur.specs.Refusal.{lineRefusal, restorationRefusal, unsharpRefusal, scratchShort, lentRefusal}
 use Rattle.deblur.specs.Refusal.{inOrder, filterRefusal, estimateRefusal, LengthTaken, IterationsTaken}
@@ -58,44 +58,21 @@ module _ (width height L : ℕ) where
         most = ltb-false (maxBlurLength width height) L (or-false-right (short || even) long a);
       }
 
--- ---- 7, the angle; 8, a factor: by one test
-
--- the number n, where a test fails
-module _ (n : ℕ) (some : 0 < n) (t : Bool) where
-  pub unless-fails : t ≡ false → cond (not t) n 0 ≡ n
-  unless-fails e = rw e
-
-  pub unless-holds : t ≡ true → cond (not t) n 0 ≡ 0
-  unless-holds e = rw e
-
-  pub unless-zero : cond (not t) n 0 ≡ 0 → t ≡ true
-  unless-zero e = not-false t (cond-zero (not t) n 0 some e .0)
-
-module _ (angle : Float) where
-  pub angle-7 : finite angle ≡ false → angleRefusal angle ≡ 7
-  unfolding angleRefusal
-  angle-7 = unless-fails 7 (zero-lt-suc 6) (finite angle)
-
-  pub angle-0 : finite angle ≡ true → angleRefusal angle ≡ 0
-  unfolding angleRefusal
-  angle-0 = unless-holds 7 (zero-lt-suc 6) (finite angle)
-
-  pub angle-taken : angleRefusal angle ≡ 0 → finite angle ≡ true
-  unfolding angleRefusal
-  angle-taken = unless-zero 7 (zero-lt-suc 6) (finite angle)
+-- ---- 8, a factor
 
 module _ (limit : ℕ) (factor : Float) where
   pub factor-8 : within limit factor ≡ false → factorRefusal limit factor ≡ 8
   unfolding factorRefusal
-  factor-8 = unless-fails 8 (zero-lt-suc 7) (within limit factor)
+  factor-8 e = rw e
 
   pub factor-0 : within limit factor ≡ true → factorRefusal limit factor ≡ 0
   unfolding factorRefusal
-  factor-0 = unless-holds 8 (zero-lt-suc 7) (within limit factor)
+  factor-0 e = rw e
 
   pub factor-taken : factorRefusal limit factor ≡ 0 → within limit factor ≡ true
   unfolding factorRefusal
-  factor-taken = unless-zero 8 (zero-lt-suc 7) (within limit factor)
+  factor-taken e =
+      not-false (within limit factor) (cond-zero (not (within limit factor)) 8 0 (zero-lt-suc 7) e .0)
 
 -- ---- 8 and 9, the iterations
 
@@ -142,17 +119,17 @@ module _ (relaxation : Float) (iterations : ℕ) where
       (factor-taken maxRelaxation relaxation (a .0), iterations-taken iterations (a .1))
 
 module _ (width height : ℕ) where
-  pub line-0 : {L : ℕ} (angle : Float) → LengthTaken width height L → finite angle ≡ true
+  pub line-0 : {L : ℕ} (angle : Float) → LengthTaken width height L → isFound (fromAngle angle) ≡ true
       → lineRefusal width height L angle ≡ 0
-  line-0 {L} angle t f = first-0 (blur-length-0 width height L t) (angle-0 angle f)
+  line-0 {L} angle t f = first-0 (blur-length-0 width height L t) (rw f)
 
   -- settings whose first refusal is the lines'
   line-taken : (L : ℕ) (angle : Float) (next : ℕ) → firstRefusal (lineRefusal width height L angle) next ≡ 0
-      → LengthTaken width height L × (finite angle ≡ true) × (next ≡ 0)
+      → LengthTaken width height L × (isFound (fromAngle angle) ≡ true) × (next ≡ 0)
   line-taken L angle next e =
       let a = first-zero (lineRefusal width height L angle) next e in
-      let b = first-zero (blurLengthRefusal width height L) (angleRefusal angle) (a .0) in
-      (length-taken width height L (b .0), angle-taken angle (b .1), a .1)
+      let b = first-zero (blurLengthRefusal width height L) (angleRefusal (fromAngle angle)) (a .0) in
+      (length-taken width height L (b .0), cond-left (isFound (fromAngle angle)) 7 (zero-lt-suc 6) (b .1), a .1)
 
   pub restoration-taken : (config : VanCittertConfig) → restorationRefusal width height config ≡ 0
       → RestorationTaken width height config
@@ -161,7 +138,7 @@ module _ (width height : ℕ) where
       let b = iterated-taken (config .relaxation) (config .iterations) (a .2) in
       record {
         length-taken = a .0;
-        angle-finite = a .1;
+        direction-found = a .1;
         relaxation-taken = b .0;
         iterations-taken = b .1;
       }
@@ -170,7 +147,7 @@ module _ (width height : ℕ) where
       → UnsharpTaken width height config
   unsharp-taken config e =
       let a = line-taken (config .«blur_length») (config .«theta_radians») _ e in
-      record { length-taken = a .0; angle-finite = a .1; gain-taken = factor-taken maxGain (config .gain) (a .2) }
+      record { length-taken = a .0; direction-found = a .1; gain-taken = factor-taken maxGain (config .gain) (a .2) }
 
 -- ---- the order of the numbers
 

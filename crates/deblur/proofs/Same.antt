@@ -7,16 +7,16 @@ use mathlib.Core.Path.{_≡_, ap}
 use lib.IntN.{ℤ, pos}
 use lib.ListN.{length}
 use Rattle.numbers.specs.Scalar.{clampByte}
-use Rattle.image.specs.Call.{Gray8, decided}
+use Rattle.image.specs.Call.{Gray8}
 use Rattle.image.specs.Picture.{pixel}
 use Rattle.image.specs.Same.{SamePicture, SameLayout, SameEnd}
-use Rattle.image.proofs.Call.{decided-accepts}
 use Rattle.image.proofs.Pair.{destination-laid}
 use Rattle.image.proofs.Same.{layout-same, pair-same, ends-alike}
 use Rattle.raster.specs.declared.direction.RasterDirection4.{RasterDirection4}
 use Rattle.line.specs.declared.kernel.LineKernel.{LineKernel}
 use Rattle.deblur.specs.declared.RestorationAnswer.{RestorationAnswer}
 use Rattle.deblur.specs.Calls.{
+  decidedAlong,
   lastEstimate,
   filterDecision,
   Filtered,
@@ -25,6 +25,7 @@ use Rattle.deblur.specs.Calls.{
 }
 use Rattle.deblur.specs.Refusal.{filterRefusal, estimateRefusal}
 use Rattle.deblur.specs.Settings.{LineFilter}
+use Rattle.deblur.proofs.Decided.{along-accepts}
 use Rattle.deblur.proofs.Refusals.{filter-accepted, estimate-accepted}
 use Rattle.deblur.proofs.RowStride.{estimate-same, walked-tight}
 
@@ -51,7 +52,7 @@ module _ {a b : Gray8} (same : SamePicture a b) where
       → filterDecision a dst f n ≡ filterDecision b dst′ f n′
   filter-same {dst′ = dst′} {n′ = n′} f alike lent =
       rw (alike .same-length, alike .same-width, alike .same-height, alike .same-stride, lent)
-      (ap (λ (k : ℕ). decided k (f .direction))
+      (ap (λ (k : ℕ). decidedAlong k (f .direction))
       (filter-refusal-same (length (dst′ .bytes)) (dst′ .width) (dst′ .height) (dst′ .stride) (f .refusal) n′))
 
   pub filtered-same : {dst dst′ : Gray8} {new new′ : List ℕ} (f : LineFilter)
@@ -63,7 +64,9 @@ module _ {a b : Gray8} (same : SamePicture a b) where
       ends-alike (λ d c r. clampByte (lastEstimate a (f .kernel) d c r))
       (λ d c r. clampByte (lastEstimate b (f .kernel) d c r)) same (filter-same f alike lent) (alike .same-stride)
       (alike .same-length)
-      (λ d is. destination-laid (filter-accepted _ _ _ _ _ _ _ _ _ _ (decided-accepts _ _ d is .0) .pictures))
+      (λ d is.
+      let t = filter-accepted _ _ _ _ _ _ _ _ _ _ (along-accepts _ (f .direction) d is .0) in
+      destination-laid (t .pictures))
       (λ d _ c r hc hr. ap clampByte (last-same (f .kernel) d c r hc hr))
 
   -- ---- the estimate call
@@ -82,6 +85,6 @@ module _ {a b : Gray8} (same : SamePicture a b) where
       ends-alike (lastEstimate a (f .kernel)) (lastEstimate b (f .kernel)) same (estimate-call-same f room lent)
       (same .same-width) room
       (λ d is.
-      let t = estimate-accepted _ _ _ _ _ _ _ (decided-accepts _ _ d is .0) in
+      let t = estimate-accepted _ _ _ _ _ _ _ (along-accepts _ (f .direction) d is .0) in
       walked-tight (t .picture) (t .dst-least) .laid)
       (λ d _ c r hc hr. last-same (f .kernel) d c r hc hr)

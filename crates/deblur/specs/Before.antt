@@ -7,11 +7,11 @@ use mathlib.Core.Path.{_≡_}
 use lib.Dec.{ltb}
 use lib.IntN.{ℤ}
 use lib.ListN.{length}
-use Rattle.image.specs.Call.{Gray8, Decision, decided, Outcome}
+use Rattle.image.specs.Call.{Gray8, Decision, Outcome}
 use Rattle.image.specs.Refusal.{layoutRefusal, pairRefusal}
 use Rattle.raster.specs.declared.direction.RasterDirection4.{RasterDirection4}
 use Rattle.deblur.specs.declared.RestorationAnswer.{RestorationAnswer}
-use Rattle.deblur.specs.Calls.{restorationAnswer, filterWrites, estimateWrites}
+use Rattle.deblur.specs.Calls.{restorationAnswer, decidedAlong, filterWrites, estimateWrites}
 use Rattle.deblur.specs.Refusal.{inOrder}
 use Rattle.deblur.specs.Settings.{LineFilter}
 
@@ -29,7 +29,7 @@ filterNumberBefore src dst f scratchLen =
     (f .refusal (src .width) (src .height)) (ltb scratchLen (scratchBefore (src .width) (src .height)))
 
 abbrev pub filterDecisionBefore : Gray8 → Gray8 → LineFilter → ℕ → Decision RasterDirection4
-filterDecisionBefore src dst f scratchLen = decided (filterNumberBefore src dst f scratchLen) (f .direction)
+filterDecisionBefore src dst f scratchLen = decidedAlong (filterNumberBefore src dst f scratchLen) (f .direction)
 
 abbrev pub FilteredBefore : Gray8 → Gray8 → List ℕ → LineFilter → List ℤ → List ℤ → RestorationAnswer → Type 0
 FilteredBefore src dst new f scratch scratch′ answer =
@@ -45,7 +45,8 @@ estimateNumberBefore src dstLen f scratchLen =
     (ltb dstLen (src .width * src .height) || ltb scratchLen (scratchBefore (src .width) (src .height)))
 
 abbrev pub estimateDecisionBefore : Gray8 → ℕ → LineFilter → ℕ → Decision RasterDirection4
-estimateDecisionBefore src dstLen f scratchLen = decided (estimateNumberBefore src dstLen f scratchLen) (f .direction)
+estimateDecisionBefore src dstLen f scratchLen =
+    decidedAlong (estimateNumberBefore src dstLen f scratchLen) (f .direction)
 
 abbrev pub EstimateWrittenBefore : Gray8 → List ℤ → List ℤ → LineFilter → List ℤ → List ℤ → RestorationAnswer → Type 0
 EstimateWrittenBefore src old new f scratch scratch′ answer =

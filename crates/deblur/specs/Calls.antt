@@ -8,6 +8,8 @@ use Rattle.numbers.specs.Scalar.{clampByte}
 use Rattle.numbers.specs.Written.{Painted}
 use Rattle.image.specs.Call.{Gray8, Decision, accepts, refuses, decided, Outcome}
 use Rattle.raster.specs.declared.direction.RasterDirection4.{RasterDirection4}
+use Rattle.raster.specs.declared.direction.SnappedDirection.{SnappedDirection}
+use Rattle.raster.specs.declared.direction.SnappedDirection.the-variants.{Found, Nothing}
 use Rattle.line.specs.declared.kernel.LineKernel.{LineKernel}
 use Rattle.deblur.specs.declared.RestorationAnswer.{RestorationAnswer}
 use Rattle.deblur.specs.declared.RestorationAnswer.the-variants.{Done, Refused}
@@ -19,6 +21,11 @@ use Rattle.deblur.specs.Settings.{LineFilter}
 abbrev pub restorationAnswer : Decision RasterDirection4 → RestorationAnswer
 restorationAnswer (accepts d) = Done (record { «raster_direction» = d })
 restorationAnswer (refuses number) = Refused number
+
+-- the direction, by a refusal's number; where there is none, the number is 7 or one before it, and never 0
+abbrev pub decidedAlong : ℕ → SnappedDirection → Decision RasterDirection4
+decidedAlong number (Found d) = decided number d
+decidedAlong number Nothing = refuses number
 
 -- the last estimate at the pixel (c, r)
 abbrev pub lastEstimate : Gray8 → LineKernel → RasterDirection4 → ℕ → ℕ → ℤ
@@ -33,7 +40,7 @@ filterNumber src dst f scratchLen =
     (dst .stride) (f .refusal (src .width) (src .height)) scratchLen
 
 abbrev pub filterDecision : Gray8 → Gray8 → LineFilter → ℕ → Decision RasterDirection4
-filterDecision src dst f scratchLen = decided (filterNumber src dst f scratchLen) (f .direction)
+filterDecision src dst f scratchLen = decidedAlong (filterNumber src dst f scratchLen) (f .direction)
 
 -- each pixel of the destination is the last estimate there, cut to 0..255
 abbrev pub filterWrites : Gray8 → ℕ → LineKernel → RasterDirection4 → List ℕ → List ℕ → Type 0
@@ -53,7 +60,7 @@ estimateNumber src dstLen f scratchLen =
     (f .refusal (src .width) (src .height)) scratchLen
 
 abbrev pub estimateDecision : Gray8 → ℕ → LineFilter → ℕ → Decision RasterDirection4
-estimateDecision src dstLen f scratchLen = decided (estimateNumber src dstLen f scratchLen) (f .direction)
+estimateDecision src dstLen f scratchLen = decidedAlong (estimateNumber src dstLen f scratchLen) (f .direction)
 
 -- the last estimate uncut, in the first width × height places, row by row
 abbrev pub estimateWrites : Gray8 → LineKernel → RasterDirection4 → List ℤ → List ℤ → Type 0

@@ -6,9 +6,9 @@ use mathlib.Core.List.{List, [], _∷_, _++_}
 use mathlib.Core.Logic.{_⊎_}
 use mathlib.Core.Path.{_≡_}
 use lib.Ieee.{Float}
-use lib.Ieee.Scale.{finite}
 use Rattle.floats.specs.Factor.{maxRelaxation, maxGain, within}
 use Rattle.image.specs.Conditions.{Refusal, given, layoutConditions, pairConditions}
+use Rattle.raster.specs.Direction.{NoDirection}
 use Rattle.line.specs.Kernel.{maxIterations, maxBlurLength}
 use Rattle.deblur.specs.declared.VanCittertConfig.{VanCittertConfig}
 use Rattle.deblur.specs.declared.DirectionalUnsharpConfig.{DirectionalUnsharpConfig}
@@ -16,11 +16,12 @@ use Rattle.deblur.specs.Refusal.{scratchNeeded}
 
 -- ---- the settings
 
--- "blur length is below 3, even, or above 2 × max(width, height) + 1, or the angle is not finite"
+-- "blur length is below 3, even, or above 2 × max(width, height) + 1, or the angle is not finite", and document 02, K7:
+-- ".. or its value in degrees"
 abbrev pub lineConditions : ℕ → ℕ → ℕ → Float → List Refusal
 lineConditions width height L angle =
     given 7 (((L < 3) ⊎ (L % 2 ≡ 0)) ⊎ (maxBlurLength width height < L))
-    ∷ given 7 (finite angle ≡ false)
+    ∷ given 7 (NoDirection angle)
     ∷ []
 
 -- "relaxation is not finite or outside 0..1, or gain is not finite or outside 0..8"

@@ -5,9 +5,9 @@ use mathlib.Core.Bool.{Bool, true, not, cond, _||_}
 use mathlib.Core.Path.{_≡_}
 use lib.Dec.{eqb, ltb}
 use lib.Ieee.{Float}
-use lib.Ieee.Scale.{finite}
 use Rattle.floats.specs.Factor.{maxRelaxation, maxGain, within}
 use Rattle.image.specs.Refusal.{layoutRefusal, pairRefusal, firstRefusal, Laid, LaidPair}
+use Rattle.raster.specs.Direction.{fromAngle, isFound, angleRefusal}
 use Rattle.line.specs.Kernel.{maxIterations, maxBlurLength}
 use Rattle.deblur.specs.declared.VanCittertConfig.{VanCittertConfig}
 use Rattle.deblur.specs.declared.DirectionalUnsharpConfig.{DirectionalUnsharpConfig}
@@ -22,10 +22,6 @@ scratchNeeded width height = 3 * max width height
 unfoldable pub blurLengthRefusal : ℕ → ℕ → ℕ → ℕ
 blurLengthRefusal width height L = cond (ltb L 3 || eqb (L % 2) 0 || ltb (maxBlurLength width height) L) 7 0
 
--- 7 .. or the angle is not finite
-unfoldable pub angleRefusal : Float → ℕ
-angleRefusal angle = cond (not (finite angle)) 7 0
-
 -- 8 relaxation, or gain, is not finite or outside 0..limit
 unfoldable pub factorRefusal : ℕ → Float → ℕ
 factorRefusal limit factor = cond (not (within limit factor)) 8 0
@@ -39,9 +35,9 @@ abbrev pub iteratedRefusal : Float → ℕ → ℕ
 iteratedRefusal relaxation iterations =
     firstRefusal (factorRefusal maxRelaxation relaxation) (iterationsRefusal iterations)
 
--- 7 of a filter along lines
+-- 7 of a filter along lines: the blur length, or an angle without a direction (document 02, K7)
 abbrev pub lineRefusal : ℕ → ℕ → ℕ → Float → ℕ
-lineRefusal width height L angle = firstRefusal (blurLengthRefusal width height L) (angleRefusal angle)
+lineRefusal width height L angle = firstRefusal (blurLengthRefusal width height L) (angleRefusal (fromAngle angle))
 
 -- 7 to 9 of the restoration
 abbrev pub restorationRefusal : ℕ → ℕ → VanCittertConfig → ℕ
@@ -97,14 +93,14 @@ pub record IterationsTaken (iterations : ℕ) : Type 0 where
 -- `restorationRefusal` is 0 exactly there.
 pub record RestorationTaken (width height : ℕ) (config : VanCittertConfig) : Type 0 where
   pub length-taken : LengthTaken width height (config .«blur_length»)
-  pub angle-finite : finite (config .«theta_radians») ≡ true
+  pub direction-found : isFound (fromAngle (config .«theta_radians»)) ≡ true
   pub relaxation-taken : within maxRelaxation (config .relaxation) ≡ true
   pub iterations-taken : IterationsTaken (config .iterations)
 
 -- `unsharpRefusal` is 0 exactly there.
 pub record UnsharpTaken (width height : ℕ) (config : DirectionalUnsharpConfig) : Type 0 where
   pub length-taken : LengthTaken width height (config .«blur_length»)
-  pub angle-finite : finite (config .«theta_radians») ≡ true
+  pub direction-found : isFound (fromAngle (config .«theta_radians»)) ≡ true
   pub gain-taken : within maxGain (config .gain) ≡ true
 
 -- An accepted restoration or line unsharp: `filterRefusal` is 0 exactly there.

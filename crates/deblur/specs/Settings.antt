@@ -6,7 +6,7 @@ use Rattle.floats.specs.Factor.{roundedQ16}
 use Rattle.raster.specs.Direction.{fromAngle}
 use Rattle.raster.specs.declared.border.LineBorderMode.{LineBorderMode}
 use Rattle.raster.specs.declared.border.LineBorderMode.the-variants.{Replicate}
-use Rattle.raster.specs.declared.direction.RasterDirection4.{RasterDirection4}
+use Rattle.raster.specs.declared.direction.SnappedDirection.{SnappedDirection}
 use Rattle.line.specs.declared.kernel.LineKernel.{LineKernel}
 use Rattle.deblur.specs.declared.VanCittertConfig.{VanCittertConfig}
 use Rattle.deblur.specs.declared.DirectionalUnsharpConfig.{DirectionalUnsharpConfig}
@@ -56,10 +56,11 @@ abbrev pub lineKernel : ℕ → Float → ℕ → LineBorderMode → LineKernel
 lineKernel L factor iterations border =
     record { «blur_length» = L; q = roundedQ16 factor; iterations = iterations; border = border }
 
--- the refusal on a picture of these sides, 0 where there is none; the lines' direction; and what is done on each
+-- the refusal on a picture of these sides, 0 where there is none; the lines' direction, which settings that are not
+-- refused have; and what is done on each
 pub record LineFilter : Type 0 where
   pub refusal : ℕ → ℕ → ℕ
-  pub direction : RasterDirection4
+  pub direction : SnappedDirection
   pub kernel : LineKernel
 
 abbrev pub restorationOf : VanCittertConfig → LineFilter

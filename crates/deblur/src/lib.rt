@@ -2,7 +2,7 @@
 ghost use mathlib.Core.Path.{_≡_};
 ghost use Rattle.image.specs.Call.{gray8};
 ghost use Rattle.raster.specs.Direction.{fromAngle};
-ghost use Rattle.deblur.specs.Calls.{Filtered, EstimateWritten};
+ghost use Rattle.deblur.specs.Calls.{restorationAnswer, decidedAlong, Filtered, EstimateWritten};
 ghost use Rattle.deblur.specs.Settings.{vanCittertDefault, unsharpDefault, restorationOf, unsharpOf};
 use crate::kernel::estimates_along;
 use crate::kernel::line_kernel;
@@ -15,6 +15,7 @@ use floats::Quantized;
 use line::kernel::LineKernel;
 use raster::border::LineBorderMode;
 use raster::direction::RasterDirection4;
+use raster::direction::SnappedDirection;
 
 pub mod kernel;
 mod lines;
@@ -80,7 +81,7 @@ impl VanCittertConfig {
     }
 
     // The direction that the lines take.
-    pub fn raster_direction(self) -> RasterDirection4
+    pub fn raster_direction(self) -> SnappedDirection
         ensures { λ d. ⌜ d ≡ fromAngle (self .«theta_radians») ⌝ }
     {
         RasterDirection4::from_angle(self.theta_radians)
@@ -101,6 +102,21 @@ impl DirectionalUnsharpConfig {
             gain: DirectionalUnsharpConfig::DEFAULT_GAIN,
             border: LineBorderMode::Replicate,
         }
+    }
+}
+
+// By the number of the refusal, which is not 0 where there is no direction.
+fn answer_along(refusal: u8, snapped: SnappedDirection) -> RestorationAnswer
+    ensures { λ r. ⌜ r ≡ restorationAnswer (decidedAlong refusal snapped) ⌝ }
+{
+    match snapped {
+        SnappedDirection::Found(raster_direction) => {
+            if refusal == 0 {
+                return RestorationAnswer::Done(RestorationMetadata { raster_direction });
+            }
+            RestorationAnswer::Refused(refusal)
+        }
+        SnappedDirection::Nothing => RestorationAnswer::Refused(refusal),
     }
 }
 
@@ -133,10 +149,11 @@ pub fn van_cittert_line_into(
         restoration_refusal(width, height, config),
         scratch.len(),
     );
-    if refusal != 0 {
-        return RestorationAnswer::Refused(refusal);
-    }
-    let direction = config.raster_direction();
+    let answer = answer_along(refusal, config.raster_direction());
+    let RestorationAnswer::Done(metadata) = answer else {
+        return answer;
+    };
+    let direction = metadata.raster_direction;
     let border = config.border;
     let kernel = line_kernel(
         config.blur_length,
@@ -155,9 +172,7 @@ pub fn van_cittert_line_into(
         kernel,
         scratch,
     );
-    RestorationAnswer::Done(RestorationMetadata {
-        raster_direction: direction,
-    })
+    answer
 }
 
 // The source's restoration as it is, in the destination's first width * height places.
@@ -183,10 +198,11 @@ pub fn van_cittert_estimate_into(
         restoration_refusal(width, height, config),
         scratch.len(),
     );
-    if refusal != 0 {
-        return RestorationAnswer::Refused(refusal);
-    }
-    let direction = config.raster_direction();
+    let answer = answer_along(refusal, config.raster_direction());
+    let RestorationAnswer::Done(metadata) = answer else {
+        return answer;
+    };
+    let direction = metadata.raster_direction;
     let border = config.border;
     let kernel = line_kernel(
         config.blur_length,
@@ -195,9 +211,7 @@ pub fn van_cittert_estimate_into(
         border,
     );
     estimates_along(data, width, height, stride, dst, direction, kernel, scratch);
-    RestorationAnswer::Done(RestorationMetadata {
-        raster_direction: direction,
-    })
+    answer
 }
 
 // The source's line unsharp, cut to 0..255, in the destination's pixels.
@@ -229,10 +243,11 @@ pub fn directional_unsharp_line_into(
         unsharp_refusal(width, height, config),
         scratch.len(),
     );
-    if refusal != 0 {
-        return RestorationAnswer::Refused(refusal);
-    }
-    let direction = RasterDirection4::from_angle(config.theta_radians);
+    let answer = answer_along(refusal, RasterDirection4::from_angle(config.theta_radians));
+    let RestorationAnswer::Done(metadata) = answer else {
+        return answer;
+    };
+    let direction = metadata.raster_direction;
     let border = config.border;
     let kernel = line_kernel(config.blur_length, config.gain, 1, border);
     restore_along(
@@ -246,7 +261,5 @@ pub fn directional_unsharp_line_into(
         kernel,
         scratch,
     );
-    RestorationAnswer::Done(RestorationMetadata {
-        raster_direction: direction,
-    })
+    answer
 }

@@ -2,7 +2,8 @@
 // order.
 ghost use mathlib.Core.Path.{_≡_};
 ghost use Rattle.image.specs.Refusal.{firstRefusal};
-ghost use Rattle.deblur.specs.Refusal.{blurLengthRefusal, angleRefusal, factorRefusal, iterationsRefusal};
+ghost use Rattle.raster.specs.Direction.{fromAngle, angleRefusal};
+ghost use Rattle.deblur.specs.Refusal.{blurLengthRefusal, factorRefusal, iterationsRefusal};
 ghost use Rattle.deblur.specs.Refusal.{iteratedRefusal, lentRefusal};
 ghost use Rattle.deblur.specs.Refusal.{lineRefusal, restorationRefusal, unsharpRefusal, filterRefusal};
 ghost use Rattle.deblur.specs.Refusal.{estimateRefusal};
@@ -10,6 +11,8 @@ use crate::DirectionalUnsharpConfig;
 use crate::VanCittertConfig;
 use crate::kernel::scratch_needed;
 use numbers::max_usize;
+use raster::direction::RasterDirection4;
+use raster::direction::SnappedDirection;
 
 // The first refusal of two.
 pub fn first_refusal(first: u8, next: u8) -> u8
@@ -39,11 +42,14 @@ fn blur_length_refusal(width: usize, height: usize, length: usize) -> u8
     0
 }
 
-// 7, for the angle.
+// 7, for an angle without a direction.
 fn angle_refusal(angle: f64) -> u8
-    ensures { λ r. ⌜ r ≡ angleRefusal angle ⌝ }
+    ensures { λ r. ⌜ r ≡ angleRefusal (fromAngle angle) ⌝ }
 {
-    if floats::is_finite(angle) { 0 } else { 7 }
+    match RasterDirection4::from_angle(angle) {
+        SnappedDirection::Found(_) => 0,
+        SnappedDirection::Nothing => 7,
+    }
 }
 
 // 8, for a relaxation or a gain.

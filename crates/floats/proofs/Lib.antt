@@ -5,4 +5,5 @@ pub mod AboveZero
 pub mod Values
 pub mod Factor
 pub mod Odd
+pub mod Overflow
 pub mod Examples

@@ -3,7 +3,7 @@
 use mathlib.Core.Bool.{false}
 use mathlib.Core.List.{List}
 use mathlib.Core.Path.{_≡_, refl, sym, ap, _∙_, subst}
-use Prim.Native.Nat.{ℕ, zero, suc, _+_, _*_, _≤_, _<_}
+use Prim.Native.Nat.{ℕ, _+_, _*_, _≤_, _<_}
 use native.Mathlib.Nat.{le-refl, lt-of-lt-of-le, mul-comm}
 use native.Mathlib.Omega.{arith}
 use denote.Floats.{passes}
@@ -15,17 +15,17 @@ use Rattle.numbers.specs.Written.{Painted, pixels}
 use Rattle.numbers.proofs.Written.{written-kept, painted-get}
 use Rattle.floats.specs.Factor.{within, roundedQ16}
 use Rattle.floats.proofs.Factor.{rounded-le}
-use Rattle.image.specs.Call.{Decision, accepts, refuses, decided}
+use Rattle.image.specs.Call.{Decision, accepts, refuses}
 use Rattle.image.specs.Picture.{pixel}
-use Rattle.raster.specs.declared.direction.RasterDirection4.{RasterDirection4}
 use Rattle.image.specs.Refusal.{Laid}
+use Rattle.image.proofs.Call.{decided-none}
 use Rattle.image.proofs.Pair.{destination-laid}
 use Rattle.image.proofs.Refusal.{place-within}
+use Rattle.raster.specs.Direction.{fromAngle, angleOf, snaps}
 use Rattle.line.specs.Near.{Near, cut}
-use Rattle.deblur.specs.Calls.{restorationAnswer, lastEstimate, estimateNumber}
+use Rattle.deblur.specs.Calls.{decidedAlong, lastEstimate, estimateDecision}
 use Rattle.deblur.specs.Refusal.{scratchNeeded, LengthTaken}
-use Rattle.deblur.specs.declared.RestorationMetadata.{RestorationMetadata}
-use Rattle.deblur.specs.declared.RestorationAnswer.the-variants as restoration
+use Rattle.deblur.proofs.Decided.{along-accepts, answer-done}
 use Rattle.deblur.proofs.Refusals.{estimate-accepted, accepted-estimate}
 use Rattle.job.specs.declared.JobResult.{JobResult}
 use Rattle.job.specs.Job.{Job, jobOf, layoutOf, JobAccepted, jobEstimate, plan, jobAnswer}
@@ -34,7 +34,7 @@ use Rattle.job.specs.ExactJob.{exactAfter}
 use Rattle.job.specs.Demands.{estimateFilter, EstimateCall, estimateAt, Demand-1, Demand-3-accepted, Demand-3}
 use Rattle.job.proofs.NearPicture.{pixel-near, byte-near}
 use Rattle.job.proofs.Plans.{job-decided, plan-accepted, plan-length}
-use Rattle.job.proofs.Settings.{estimate-taken, estimate-planned}
+use Rattle.job.proofs.Settings.{estimate-taken}
 
 -- ---- demand 1
 
@@ -63,12 +63,6 @@ demand-1 src dst new config scratch scratch′ swings swings′ answer o =
     }
 
 -- ---- demand 3
-
--- an estimate call that is Done was not refused
-done-accepts : (n : ℕ) (d : RasterDirection4) (metadata : RestorationMetadata)
-    → restoration.Done metadata ≡ restorationAnswer (decided n d) → n ≡ 0
-done-accepts zero d metadata e = refl
-done-accepts (suc n) d metadata e = let z : _≡_ {A = ℕ} 0 1 = cc in absurd (omega arith)
 
 -- a row-by-row destination of w × h places has one for each pixel
 place-tight : (w h c r n : ℕ) → c < w → r < h → w * h ≤ n → r * w + c < n
@@ -100,30 +94,36 @@ module _ (j : Job) (result : JobResult) (done : plan j ≡ accepts result) where
   some : 0 < result .«blur_length»
   some = let h = long .least in omega arith
 
-  -- the estimate call is accepted wherever enough is lent
+  -- behind no refusal, the estimate call is accepted along the direction that its angle snaps to
+  snapped-accepts : {number : ℕ} → number ≡ 0
+      → decidedAlong number (fromAngle (angleOf (result .direction))) ≡ accepts (result .direction)
+  snapped-accepts {number} e = ap (decidedAlong number) (snaps (result .direction)) ∙ decided-none e (result .direction)
+
+  -- it is accepted wherever enough is lent
   pub call-accepted : (k estimatesLen scratchLen : ℕ) → 1 ≤ k → k ≤ last → w * h ≤ estimatesLen
       → scratchNeeded w h ≤ scratchLen
-      → estimateNumber (j .source) estimatesLen (estimateFilter (j .config) result k) scratchLen ≡ 0
+      → estimateDecision (j .source) estimatesLen (estimateFilter (j .config) result k) scratchLen
+      ≡ accepts (result .direction)
   call-accepted k estimatesLen scratchLen least most room scratch =
-      accepted-estimate _ _ _ _ _ _ _ (record {
+      snapped-accepts (accepted-estimate _ _ _ _ _ _ _ (record {
         picture = taken .runnable .pictures .source;
         settings-taken = estimate-taken (j .config) result k (taken .runnable) long least most;
         dst-least = room;
         scratch-least = scratch;
-      })
+      }))
 
   -- what an accepted estimate call wrote at a pixel is the working run's estimate there
   pub estimates-are : (k : ℕ) (estimates : List ℤ) → EstimateCall j result k estimates → (c r : ℕ) → c < w → r < h
       → estimateAt j estimates c r ≡ jobEstimate (j .source) (j .config) result k c r
   estimates-are k estimates call c r hc hr =
       let f = estimateFilter (j .config) result k in
-      let number = estimateNumber (j .source) (length (call .old)) f (length (call .scratch)) in
-      let e : number ≡ 0 = done-accepts number (f .direction) (call .metadata) (call .outcome .answered) in
+      let decision = estimateDecision (j .source) (length (call .old)) f (length (call .scratch)) in
+      let done = answer-done decision (call .metadata) (sym (call .outcome .answered)) in
+      let e = along-accepts _ (f .direction) _ done .0 in
       let a = estimate-accepted _ _ _ _ _ _ _ e in
-      painted-get (lastEstimate (j .source) (f .kernel) (f .direction)) w h w
-      (call .outcome .written (f .direction) (ap (λ (n : ℕ). decided n (f .direction)) e)) c r hc hr
-      (le-refl w) (place-tight w h c r (length (call .old)) hc hr (a .dst-least))
-      ∙ estimate-planned (j .config) result k (j .source) c r
+      painted-get (lastEstimate (j .source) (f .kernel) (result .direction)) w h w
+      (call .outcome .written (result .direction) (snapped-accepts e)) c r hc hr (le-refl w)
+      (place-tight w h c r (length (call .old)) hc hr (a .dst-least))
 
   abbrev px : ℕ → ℕ → ℕ
   px c r = clampByte (jobEstimate (j .source) (j .config) result last c r)

@@ -13,7 +13,7 @@ use Rattle.numbers.specs.Sum.{total}
 use Rattle.floats.specs.Factor.{roundedQ16}
 use Rattle.image.specs.Call.{Gray8, accepts, decided}
 use Rattle.image.specs.Picture.{pixel}
-use Rattle.image.proofs.Call.{decided-none, accepts-not-refuses}
+use Rattle.image.proofs.Call.{accepts-not-refuses}
 use Rattle.raster.specs.Border.{borderMap}
 use Rattle.raster.specs.Lines.{startCol, startRow, lineOf}
 use Rattle.raster.specs.declared.direction.RasterDirection4.{RasterDirection4}
@@ -172,11 +172,9 @@ pub refuses-every-estimate : (old new scratch scratch′ : List ℤ) (number : �
     → ⊥
 unfolding columns
 refuses-every-estimate old new scratch scratch′ number room lent o =
-    let direction = estimateFilter (columns .config) vertical-5 1 .direction in
-    let none =
+    let done =
     call-accepted columns vertical-5 (runs .0) 1 (length old) (length scratch) (omega arith) (omega arith) room lent
     in
-    let done = decided-none none direction in
     let refused = o .answered in
     let z : _≡_ {A = ℕ} 0 1 = cc in
     omega arith

@@ -19,12 +19,13 @@ use lib.ListN.{length, getD}
 use Rattle.numbers.specs.Scalar.{clampByte}
 use Rattle.numbers.specs.Written.{pixels}
 use Rattle.floats.specs.Factor.{roundedQ16}
+use Rattle.image.specs.Call as call
 use Rattle.image.specs.Call.{Gray8}
 use Rattle.image.specs.Picture.{pixel}
 use Rattle.raster.specs.Direction.{angleOf}
 use Rattle.swings.specs.declared.Swing.{Swing}
 use Rattle.line.specs.Near.{Near, cut}
-use Rattle.deblur.specs.Calls.{estimateNumber, EstimateWritten}
+use Rattle.deblur.specs.Calls.{estimateDecision, EstimateWritten}
 use Rattle.deblur.specs.Refusal.{scratchNeeded}
 use Rattle.deblur.specs.Settings.{LineFilter, restorationOf}
 use Rattle.deblur.specs.declared.VanCittertConfig.{VanCittertConfig}
@@ -96,11 +97,13 @@ pub record Demand-3-accepted (j : Job) (new : List ℕ) (result : JobResult) : T
   pub exact-accepts : exactAnswer j ≡ Done exact-result
   pub same-direction : exact-result .direction ≡ result .direction
   pub same-length : exact-result .«blur_length» ≡ result .«blur_length»
-  -- for every k from 1 to the stated iterations there is such an estimate call: it is accepted wherever enough is lent
+  -- for every k from 1 to the stated iterations there is such an estimate call: it is accepted, along that direction,
+  -- wherever enough is lent
   pub estimate-accepted : (k estimatesLen scratchLen : ℕ) → 1 ≤ k → k ≤ j .config .iterations
       → j .source .width * j .source .height ≤ estimatesLen
       → scratchNeeded (j .source .width) (j .source .height) ≤ scratchLen
-      → estimateNumber (j .source) estimatesLen (estimateFilter (j .config) result k) scratchLen ≡ 0
+      → estimateDecision (j .source) estimatesLen (estimateFilter (j .config) result k) scratchLen
+      ≡ call.accepts (result .direction)
   -- "Then, for every k from 1 to the stated iterations, the estimate after k is at every pixel less than 2^(k+1) − 2
   -- grey levels from the exact value after k, and less than 2^k − 1 at relaxation 1."
   pub estimates-near : (k : ℕ) → 1 ≤ k → k ≤ j .config .iterations → (estimates : List ℤ)

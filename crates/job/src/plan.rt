@@ -4,7 +4,7 @@ ghost use Rattle.floats.specs.Odd.{oddLength};
 ghost use Rattle.image.specs.Call.{gray8};
 ghost use Rattle.raster.specs.Lines.{Sides};
 ghost use Rattle.job.specs.Job.{layout, jobOf, jobRefusal, planOdd, planLength, jobAnswer};
-ghost use Rattle.job.specs.Parts.{lengthIn, refusedStart, JobStarts};
+ghost use Rattle.job.specs.Parts.{lengthIn, JobStarts};
 use crate::JobAnswer;
 use crate::JobConfig;
 use crate::JobResult;
@@ -66,7 +66,7 @@ fn job_refusal(
 
 // No direction is read of a job that is refused.
 fn refused_start(number: u8) -> JobStart
-    ensures { λ r. ⌜ r ≡ refusedStart number ⌝ }
+    ensures { λ r. ⌜ r .refusal ≡ number ⌝ }
 {
     JobStart {
         refusal: number,

@@ -1,6 +1,7 @@
 // The four directions of a line, and the one nearest to an angle.
 ghost use mathlib.Core.Path.{_≡_};
-ghost use Rattle.raster.specs.Direction.{stepOf, directionIndex, directionFrom, halfTurn, nearest, fromAngle};
+ghost use Rattle.raster.specs.Direction.{stepOf, directionIndex, directionFrom, halfTurn, nearest, nearestTo};
+ghost use Rattle.raster.specs.Direction.{fromAngle, isFound};
 
 pub enum RasterDirection4 {
     Horizontal,
@@ -15,18 +16,24 @@ pub struct RasterStep {
     pub dy: i64,
 }
 
-// The angle in degrees, taken modulo a half turn.
-fn half_turn(theta_radians: f64) -> f64
-    ensures { λ r. ⌜ r ≡ halfTurn «theta_radians» ⌝ }
+// The direction nearest to an angle, or that the angle has none.
+pub enum SnappedDirection {
+    Found(RasterDirection4),
+    Nothing,
+}
+
+// Degrees, taken modulo a half turn.
+fn half_turn(degrees: f64) -> f64
+    ensures { λ r. ⌜ r ≡ halfTurn degrees ⌝ }
 {
-    let rest = theta_radians * 57.29577951308232 % 180.0;
+    let rest = degrees % 180.0;
     if rest < 0.0 {
         return rest + 180.0;
     }
     rest
 }
 
-// The direction nearest to v eighths of a turn. A v that is no number passes no test.
+// The direction nearest to v eighths of a turn.
 fn nearest_direction(v: f64) -> RasterDirection4
     ensures { λ r. ⌜ r ≡ nearest v ⌝ }
 {
@@ -43,6 +50,25 @@ fn nearest_direction(v: f64) -> RasterDirection4
         return RasterDirection4::DownLeft;
     }
     RasterDirection4::Horizontal
+}
+
+// The direction nearest to finite degrees.
+fn nearest_to(degrees: f64) -> RasterDirection4
+    ensures { λ r. ⌜ r ≡ nearestTo degrees ⌝ }
+{
+    nearest_direction(half_turn(degrees) / 45.0)
+}
+
+impl SnappedDirection {
+    pub fn is_found(self) -> bool
+        ensures { λ r. ⌜ r ≡ isFound self ⌝ }
+    {
+        if let SnappedDirection::Found(_) = self {
+            true
+        } else {
+            false
+        }
+    }
 }
 
 impl RasterDirection4 {
@@ -81,9 +107,14 @@ impl RasterDirection4 {
         }
     }
 
-    pub fn from_angle(theta_radians: f64) -> Self
+    // Degrees are finite only where the angle is.
+    pub fn from_angle(theta_radians: f64) -> SnappedDirection
         ensures { λ r. ⌜ r ≡ fromAngle «theta_radians» ⌝ }
     {
-        nearest_direction(half_turn(theta_radians) / 45.0)
+        let degrees = theta_radians * 57.29577951308232;
+        if floats::is_finite(degrees) {
+            return SnappedDirection::Found(nearest_to(degrees));
+        }
+        SnappedDirection::Nothing
     }
 }

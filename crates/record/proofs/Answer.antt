@@ -22,7 +22,7 @@ use Rattle.record.specs.declared.NamedFilter.the-variants.{Known, Unknow
 use Rattle.record.specs.declared.RecordFilter.{RecordFilter}
 use Rattle.record.specs.declared.Record.{Record}
 use Rattle.record.specs.declared.ReadAnswer.the-variants as answer
-use Rattle.record.proofs.Legal.{sound}
+use Rattle.record.proofs.Legal.{angle-finite, sound}
 use Rattle.record.proofs.Doubles.{not-finite-bits}
 
 -- ---- checked fields
@@ -39,7 +39,7 @@ module _ (k : RecordFilter) where
     unfolding fieldsOf
     angle-broken h =
         false-of-not (legal k (fieldsOf r q))
-        (λ e. false-not-true (not-finite-bits (r .angle) h) (sound (fieldsOf r q) k e .angle))
+        (λ e. false-not-true (not-finite-bits (r .angle) h) (angle-finite _ (sound (fieldsOf r q) k e .angle)))
 
     pub estimate-broken : finite (r .estimate) ≡ false → legal k (fieldsOf r q) ≡ false
     unfolding fieldsOf

@@ -1,15 +1,21 @@
--- A record is given 13 in its condition and otherwise never, read (`read-exactly`) or written (`write-exactly`).
+-- A record is given 13 in its condition and otherwise never, read (`read-exactly`) or written (`write-exactly`), and
+-- always where its angle has no direction (`read-undirected`, `write-undirected`).
 use Prim.Native.Nat.{ℕ}
 use native.Mathlib.Omega.{arith}
 use mathlib.Core.Bool.{false}
 use mathlib.Core.List.{List, [], _∷_}
-use mathlib.Core.Logic.{inl, _↔_}
-use mathlib.Core.Path.{_≡_, refl}
-use lib.Dec.{eqb}
+use mathlib.Core.Logic.{inl, inr, _↔_}
+use mathlib.Core.Path.{_≡_, refl, ap, _∙_}
+use borrow.Author.Tests.{eqb-true, eqb-false}
+use lib.Dec.{T, eqb}
+use lib.Ieee.{binary64, ofBits, fits}
+use lib.Ieee.Bits.{ofBits-toBits}
 use lib.ListN.{length}
-use Rattle.numbers.proofs.Test.{ap-cond, eqb-iff, false-iff}
+use Rattle.numbers.proofs.Test.{ap-cond, by-test, eqb-iff, false-iff, false-not-true, false-of-not}
 use Rattle.floats.specs.declared.Quantized.{Quantized}
 use Rattle.floats.specs.declared.Quantized.the-variants.{Q16, Refused}
+use Rattle.raster.specs.Direction.{fromAngle, isFound}
+use Rattle.raster.specs.declared.direction.SnappedDirection.the-variants.{Nothing}
 use Rattle.image.specs.Conditions.{given, FirstMatch, Exactly}
 use Rattle.image.proofs.Conditions.{exactly, match-none, match-unless}
 use Rattle.record.specs.Conditions.{readNumber, FieldsBroken, RecordBroken, readConditions, writeConditions}
@@ -23,6 +29,7 @@ use Rattle.record.specs.declared.NamedFilter.the-variants.{Known, Unknow
 use Rattle.record.specs.declared.RecordFilter.{RecordFilter}
 use Rattle.record.specs.declared.Record.{Record}
 use Rattle.record.specs.declared.ReadAnswer.the-variants as answer
+use Rattle.record.proofs.Legal.{sound}
 
 -- ---- reading
 
@@ -66,3 +73,26 @@ module _ (r : Record) where
       exactly
       (rw (ap-cond writeNumber (eqb (length old) 32) (withQ r (filterQ (r .filter))) Broken)
       (match-unless 13 (factor-matches (filterQ (r .filter)) refl) (false-iff _ (eqb-iff (length old) 32))))
+
+-- ---- document 02, K7: "A record with such an angle gives 13."
+
+undirected : (k : RecordFilter) (f : Fields) → fromAngle (ofBits binary64 (f .angle)) ≡ Nothing → legal k f ≡ false
+undirected k f e = false-of-not (legal k f) (λ h. false-not-true (ap isFound e) (sound f k h .angle))
+
+-- what is broken is given 13, whatever the slice's length
+given-13 : (xs : List ℕ) {B : Type 0} → B → FirstMatch (given 13 (length xs ≡ 32 → ⊥) ∷ given 13 B ∷ []) 13
+given-13 xs b = record {
+  matches = by-test (eqb (length xs) 32) (λ t. inr (λ n. n (eqb-true _ _ t), inl (b, refl)))
+      (λ t. inl (eqb-false _ _ t, refl));
+}
+
+pub read-undirected : (xs : List ℕ) → fromAngle (ofBits binary64 (decoded xs .angle)) ≡ Nothing
+    → readNumber (readRecord xs) ≡ 13
+read-undirected xs e = read-exactly xs 13 .1 (given-13 xs (λ k _. undirected k (decoded xs) e))
+
+pub write-undirected : (r : Record) (old : List ℕ) → T (fits binary64 (r .angle)) → fromAngle (r .angle) ≡ Nothing
+    → writeNumber (toWrite r old) ≡ 13
+unfolding fieldsOf
+write-undirected r old t e =
+    let same = ofBits-toBits binary64 (r .angle) t in
+    write-exactly r old 13 .1 (given-13 old (λ q _. undirected (r .filter) (fieldsOf r q) (ap fromAngle same ∙ e)))

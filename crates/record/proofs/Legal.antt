@@ -1,7 +1,7 @@
 -- What the limits say of fields (`sound`, `length-most`), and which filter fields name (`Named`).
-use mathlib.Core.Path.{_≡_, sym, _∙_}
+use mathlib.Core.Path.{_≡_, sym, ap, _∙_}
 use mathlib.Core.Bool.{Bool, true, false, _&&_, false≢true, and-eq-true-iff}
-use mathlib.Core.Logic.{⊎-elim}
+use mathlib.Core.Logic.{inl, ⊎-elim}
 use Prim.Native.Nat.{ℕ, _+_, _*_, _%_, _≤_, max}
 use native.Mathlib.Omega.{arith}
 use borrow.Author.Tests.{leb-true, eqb-true, eqb-false, ne-eqb}
@@ -11,23 +11,36 @@ use lib.Ieee.Scale.{finite}
 use Rattle.numbers.proofs.Test.{by-test, or-cases, false-of-not}
 use Rattle.floats.specs.Factor.{scale, maxRelaxation, maxGain, factorOf}
 use Rattle.raster.specs.Border.{isBorder}
+use Rattle.raster.specs.Direction.{isFound, snaps}
 use Rattle.raster.specs.declared.border.LineBorderMode.the-variants.{Replicate}
+use Rattle.raster.specs.declared.direction.RasterDirection4.the-variants.{Horizontal}
 use Rattle.raster.proofs.Codes.{is-border}
+use Rattle.raster.proofs.Snapped.{found-finite, nothing-iff}
 use Rattle.image.specs.Refusal.{maxSide}
-use Rattle.record.specs.Fields.{sideLegal, headLegal, lengthLegal, estimateLegal, lineLegal}
-use Rattle.record.specs.Fields.{iteratedLegal, unmeasured, filterLegal}
-use Rattle.record.specs.Fields.{legal}
+use Rattle.record.specs.Fields.{sideLegal, headLegal, lengthLegal, angleLegal, estimateLegal}
+use Rattle.record.specs.Fields.{lineLegal, iteratedLegal, unmeasured, filterLegal, legal}
 use Rattle.record.specs.Record.{filterFrom}
 use Rattle.record.specs.declared.fields.Fields.{Fields}
 use Rattle.record.specs.declared.NamedFilter.the-variants.{Known, Unknown}
 use Rattle.record.specs.declared.RecordFilter.{RecordFilter}
 use Rattle.record.specs.declared.RecordFilter.the-variants.{WholeJob, Restoration, Unsharp, Binomial}
 
--- ---- the bits 0 are a finite double's
+-- ---- the bits 0 are a finite double's, and an angle's that has a direction
 
 pub zero-finite : (b : ℕ) → b ≡ 0 → finite (ofBits binary64 b) ≡ true
 unfolding ofBits
 zero-finite b e = rw e
+
+zero-angle : (b : ℕ) → b ≡ 0 → angleLegal b ≡ true
+zero-angle b e = rw e (ap isFound (snaps Horizontal))
+
+-- ---- angles and estimates are finite
+
+pub angle-finite : (b : ℕ) → angleLegal b ≡ true → finite (ofBits binary64 b) ≡ true
+angle-finite b = found-finite (ofBits binary64 b)
+
+pub angle-refused : (b : ℕ) → finite (ofBits binary64 b) ≡ false → angleLegal b ≡ false
+angle-refused b h = ap isFound (nothing-iff (ofBits binary64 b) .1 (inl h))
 
 pub estimate-finite : (b : ℕ) → estimateLegal b ≡ true → finite (ofBits binary64 b) ≡ true
 estimate-finite b h =
@@ -50,7 +63,7 @@ pub record Sound (k : RecordFilter) (f : Fields) : Type 0 where
   pub direction : f .direction ≤ 3
   pub border : isBorder (f .border) (f .value) ≡ true
   pub filter : FilterSound k f
-  pub angle : finite (ofBits binary64 (f .angle)) ≡ true
+  pub angle : angleLegal (f .angle) ≡ true
   pub estimate : finite (ofBits binary64 (f .estimate)) ≡ true
 
 record Unmeasured (f : Fields) : Type 0 where
@@ -123,7 +136,7 @@ module _ (f : Fields) where
         direction = let d = m .direction in omega arith;
         border = rw (eqb-true (f .border) 0 (b .1), eqb-true (f .value) 0 (v .1)) (is-border Replicate);
         filter = (eqb-true _ _ (q .1), m .angle, m .estimate);
-        angle = zero-finite (f .angle) (m .angle);
+        angle = zero-angle (f .angle) (m .angle);
         estimate = zero-finite (f .estimate) (m .estimate);
       }
 

@@ -1,5 +1,6 @@
--- A record that was read has a length of at most 2,049 (`read-length`), and can be written again, with the direction,
--- length and estimate used: `used-written` of a line filter's, `binomial-written`.
+-- A record that was read has a length of at most 2,049 (`read-length`) and an angle that has a direction
+-- (`read-angle`), and can be written again, with the direction, length and estimate used: `used-written` of a line
+-- filter's, `binomial-written`.
 use mathlib.Core.Path.{_≡_, refl, ap, subst}
 use mathlib.Core.Bool.{true, false, _&&_, or-true}
 use mathlib.Core.List.{List}
@@ -14,14 +15,13 @@ use lib.Ieee.Fits.{up-pos}
 use lib.Ieee.Bits.{is-true, ofBits-toBits, ofBits-fits}
 use lib.Ieee.Positive.{positive, positive-finite}
 use lib.Ieee.Scale.{finite}
-use Rattle.raster.specs.Direction.{directionIndex}
+use Rattle.raster.specs.Direction.{directionIndex, fromAngle, isFound}
 use Rattle.raster.specs.declared.direction.RasterDirection4.{RasterDirection4}
 use Rattle.raster.specs.Border.{isBorder}
 use Rattle.raster.proofs.Codes.{border-from, index-most}
 use Rattle.image.specs.Refusal.{maxSide}
-use Rattle.record.specs.Fields.{decoded, headLegal, lengthLegal, finiteBits, estimateLegal, lineLegal}
-use Rattle.record.specs.Fields.{iteratedLegal}
-use Rattle.record.specs.Fields.{unmeasured, filterLegal, legal}
+use Rattle.record.specs.Fields.{decoded, headLegal, lengthLegal, angleLegal, estimateLegal, lineLegal}
+use Rattle.record.specs.Fields.{iteratedLegal, unmeasured, filterLegal, legal}
 use Rattle.record.specs.Record.{recordOf, filterCode, filterQ, fieldsOf, recordFields, readRecord, writeNumber}
 use Rattle.record.specs.Record.{isJob, usedFilter, usedIn}
 use Rattle.record.specs.declared.fields.Fields.{Fields}
@@ -77,14 +77,14 @@ module _ (f : Fields) (d L a e : ℕ) where
   }
 
   module _ (direction : d ≤ 3) (size : lengthLegal (f .head .width) (f .head .height) L ≡ true)
-      (angle : finiteBits a ≡ true) (estimate : estimateLegal e ≡ true) where
+      (angle : angleLegal a ≡ true) (estimate : estimateLegal e ≡ true) where
     used-line : lineLegal f ≡ true → lineLegal used ≡ true
     unfolding lineLegal
     used-line h =
         let index = leb (f .direction) 3 in
         let border = isBorder (f .border) (f .value) in
-        let p = both (index && border && finiteBits (f .angle)) (estimateLegal (f .estimate)) h in
-        let q = both (index && border) (finiteBits (f .angle)) (p .0) in
+        let p = both (index && border && angleLegal (f .angle)) (estimateLegal (f .estimate)) h in
+        let q = both (index && border) (angleLegal (f .angle)) (p .0) in
         rw (le-leb d 3 direction, both index border (q .0) .1, angle, estimate)
 
     used-iterated : iteratedLegal f ≡ true → iteratedLegal used ≡ true
@@ -129,9 +129,9 @@ used-q (Unsharp x) = refl
 used-q Binomial = refl
 
 module _ (f : Fields) (k : RecordFilter) (h : Reads f k) where
-  -- the bits of the angle that a pattern stands for are finite with it
-  angle-finite : finiteBits (toBits binary64 (ofBits binary64 (f .angle))) ≡ true
-  angle-finite =
+  -- the bits of the angle that a pattern stands for have a direction with it
+  angle-legal : angleLegal (toBits binary64 (ofBits binary64 (f .angle))) ≡ true
+  angle-legal =
       rw (ofBits-toBits binary64 (ofBits binary64 (f .angle)) (ofBits-fits binary64 (f .angle)))
       (sound f k (h .within) .angle)
 
@@ -147,7 +147,7 @@ module _ (f : Fields) (k : RecordFilter) (h : Reads f k) where
       rw (used-q k, p .1, used-code k, p .0, b .0, b .1)
       (ap writeNumber
       (checked-legal (usedFilter k) g
-      (used-legal f _ L _ _ (index-most d) size angle-finite estimate k line (h .within))))
+      (used-legal f _ L _ _ (index-most d) size angle-legal estimate k line (h .within))))
 
   fields-binomial : k ≡ Binomial → writeNumber (recordFields (recordOf k f)) ≡ 0
   fields-binomial e =
@@ -162,6 +162,13 @@ module _ (xs : List ℕ) (r : Record) (reads : readRecord xs ≡ answer.Record r
       let p = read-is xs r reads in
       subst (λ (r : Record). r .«blur_length» ≤ 2 * maxSide + 1) (p .same)
       (length-most (decoded xs) (r .filter) (p .reads .within))
+
+  pub read-angle : isFound (fromAngle (r .angle)) ≡ true
+  unfolding recordOf
+  read-angle =
+      let p = read-is xs r reads in
+      subst (λ (r : Record). isFound (fromAngle (r .angle)) ≡ true) (p .same)
+      (sound (decoded xs) (r .filter) (p .reads .within) .angle)
 
   -- a line filter's record with what was used
   pub used-written : (d : RasterDirection4) (L : ℕ) (x : Float) → filterCode (r .filter) ≤ 2

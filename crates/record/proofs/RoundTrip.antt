@@ -33,7 +33,7 @@ use Rattle.record.specs.declared.Record.{Record}
 use Rattle.record.specs.declared.ReadAnswer.the-variants as answer
 use Rattle.record.proofs.Answer.{checked-legal, fields-legal, read-whole, encoded-length}
 use Rattle.record.proofs.Legal.{FilterSound, sound, Named, whole-job, restoration, unsharp, binomial, named}
-use Rattle.record.proofs.Legal.{filter-named}
+use Rattle.record.proofs.Legal.{filter-named, angle-finite}
 use Rattle.record.proofs.Doubles.{bits-back, factor-finite, factor-same}
 use Rattle.record.proofs.LittleEndian.{Bytes}
 use Rattle.record.proofs.Coding.{InBytes, decoded-encoded, decoded-in-bytes, encoded-decoded}
@@ -92,7 +92,7 @@ fields-record f k a b h =
       index-from (f .direction) (s .direction),
       d .0,
       d .1,
-      bits-back (f .angle) a (s .angle),
+      bits-back (f .angle) a (angle-finite (f .angle) (s .angle)),
       bits-back (f .estimate) b (s .estimate),
     )
     (checked-legal k f (h .within))

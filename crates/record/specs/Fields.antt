@@ -9,6 +9,7 @@ use lib.Ieee.Scale.{finite}
 use Rattle.floats.specs.Factor.{scale, maxRelaxation, maxGain}
 use Rattle.image.specs.Refusal.{maxSide}
 use Rattle.raster.specs.Border.{isBorder}
+use Rattle.raster.specs.Direction.{fromAngle, isFound}
 use Rattle.line.specs.Kernel.{maxIterations, maxBlurLength}
 use Rattle.record.specs.Bytes.{numberAt, bytesOf}
 use Rattle.record.specs.declared.RecordFilter.{RecordFilter}
@@ -81,15 +82,19 @@ lengthLegal width height n = eqb (n % 2) 1 && leb 3 n && leb n (maxBlurLength wi
 abbrev pub finiteBits : ℕ → Bool
 finiteBits bits = finite (ofBits binary64 bits)
 
+-- document 02, K7: an angle has a direction; with one that has none, a record gives 13
+abbrev pub angleLegal : ℕ → Bool
+angleLegal bits = isFound (fromAngle (ofBits binary64 bits))
+
 -- an estimate is zero bits or positive and finite
 abbrev pub estimateLegal : ℕ → Bool
 estimateLegal bits = eqb bits 0 || (finiteBits bits && lt (ofBits binary64 0) (ofBits binary64 bits))
 
--- what both line filters ask: a direction 0 to 3, a border, an angle that is finite, an estimate
+-- what both line filters ask: a direction 0 to 3, a border, an angle that has a direction, an estimate
 unfoldable pub lineLegal : Fields → Bool
 unfolding isBorder
 lineLegal f =
-    leb (f .direction) 3 && isBorder (f .border) (f .value) && finiteBits (f .angle) && estimateLegal (f .estimate)
+    leb (f .direction) 3 && isBorder (f .border) (f .value) && angleLegal (f .angle) && estimateLegal (f .estimate)
 
 -- what both restorations ask ("Refusals", 8 and 9): iterations, and the q of a relaxation
 unfoldable pub iteratedLegal : Fields → Bool

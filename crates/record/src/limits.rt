@@ -6,9 +6,10 @@ use image::Gray8View;
 use line::kernel::LineKernel;
 use numbers::max_usize;
 use raster::border::LineBorderMode;
+use raster::direction::RasterDirection4;
 ghost use mathlib.Core.Path.{_≡_};
-ghost use Rattle.record.specs.Fields.{sideLegal, lengthLegal, finiteBits, estimateLegal, lineLegal};
-ghost use Rattle.record.specs.Fields.{iteratedLegal, unmeasured, filterLegal, legal};
+ghost use Rattle.record.specs.Fields.{sideLegal, lengthLegal, finiteBits, angleLegal, estimateLegal};
+ghost use Rattle.record.specs.Fields.{lineLegal, iteratedLegal, unmeasured, filterLegal, legal};
 
 // The limits as the fields' types.
 const MAX_SIDE: u16 = Gray8View::MAX_SIDE as u16;
@@ -42,6 +43,16 @@ fn is_finite_bits(bits: u64) -> bool
     floats::is_finite(f64::from_bits(bits))
 }
 
+// Whether the angle has a direction.
+fn is_angle(bits: u64) -> bool
+    ensures { λ r. ⌜ r ≡ angleLegal bits ⌝ }
+{
+    if is_finite_bits(bits) {
+        return RasterDirection4::from_angle(f64::from_bits(bits)).is_found();
+    }
+    false
+}
+
 fn is_estimate(bits: u64) -> bool
     ensures { λ r. ⌜ r ≡ estimateLegal bits ⌝ }
 {
@@ -56,7 +67,7 @@ fn is_line(fields: Fields) -> bool
 {
     (fields.direction <= 3)
         & LineBorderMode::is_code(fields.border, fields.value)
-        & is_finite_bits(fields.angle)
+        & is_angle(fields.angle)
         & is_estimate(fields.estimate)
 }
 

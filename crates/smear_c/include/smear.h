@@ -17,7 +17,8 @@
 extern "C" {
 #endif
 
-/* The raster direction nearest to an angle in radians. An angle that is no number is Horizontal. */
+/* The raster direction nearest to an angle in radians, 0 to 3, or 4 where it has none: where the angle or its value in
+ * degrees, angle * 57.29577951308232, is not finite. The largest angle that has one is 3.1375664143845866e306. */
 uint8_t smear_direction_from_angle(double angle);
 
 /* The direction of the line smear in a picture, from its Sobel gradients gx and gy: *direction, with the sums *a of
@@ -34,7 +35,7 @@ typedef struct {
 /* The length of the line smear along the raster direction nearest to `angle`: *length, or 0.0 where there is nothing to
  * tell it by. There must be `minimum_transitions` swings of at least `minimum_amplitude`; usual are 8 and 24, and a 0
  * or a side below 3 gives 0.0. `swings` has at least width * height elements.
- * Refusals: 1 to 4, and 10 of too few swings. */
+ * Refusals: 1 to 4, 7 of an angle that has no direction, also where *length would be 0.0, and 10 of too few swings. */
 uint8_t smear_estimate_line_length(
     const uint8_t *src, size_t src_len, size_t width, size_t height, size_t stride,
     double angle, size_t minimum_transitions, uint8_t minimum_amplitude,
@@ -51,8 +52,8 @@ uint8_t smear_fixed_binomial_unsharp(
  * to 2 * max(width, height) + 1; `iterations` 1 to 22; `relaxation` 0 to 1. `border` is what stands beyond a line's
  * ends: 0 their nearer pixel, 1 the line reflected, 3 the line again, any other `border_value`. `scratch` has at least
  * 3 * max(width, height) elements. *direction is the direction taken.
- * Refusals: 1 to 4 of the source, 5 of the destination's layout, 6 of two sizes that differ, 7 of the length and the
- * angle, 8 and 9 of the iterations and the relaxation, 10 of a short scratch. */
+ * Refusals: 1 to 4 of the source, 5 of the destination's layout, 6 of two sizes that differ, 7 of the length and of an
+ * angle that has no direction, 8 and 9 of the iterations and the relaxation, 10 of a short scratch. */
 uint8_t smear_van_cittert_line(
     const uint8_t *src, size_t src_len, size_t width, size_t height, size_t stride,
     uint8_t *dst, size_t dst_len, size_t dst_width, size_t dst_height, size_t dst_stride,

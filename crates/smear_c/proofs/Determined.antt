@@ -11,9 +11,9 @@ use Rattle.image.specs.Determined.{Determines}
 use Rattle.image.proofs.Determined.{outcome-determines, outs-one, with-outs-one}
 use Rattle.image.proofs.Front.{front-one}
 use Rattle.raster.specs.Direction.{directionIndex}
-use Rattle.raster.specs.declared.direction.RasterDirection4.{RasterDirection4}
+use Rattle.raster.specs.declared.direction.SnappedDirection.{SnappedDirection}
 use Rattle.tensor.specs.Tensor.{directionDecision}
-use Rattle.blur.specs.Length.{lengthDecision}
+use Rattle.blur.specs.Length.{snappedDecision}
 use Rattle.deblur.specs.Calls.{filterDecision, filterWrites, estimateDecision, estimateWrites}
 use Rattle.deblur.specs.Settings.{LineFilter}
 use Rattle.deblur.proofs.Determined.{filter-one, estimate-one}
@@ -40,11 +40,11 @@ direction-determined src before =
     outcome-determines (λ s. s) (λ _. directionDecision src) numberOf (outsOnly directionOuts) (outs-one directionOuts)
     before
 
-pub length-determined : (src : Gray8) (d : RasterDirection4) (transitions amplitude : ℕ) (before : Float)
+pub length-determined : (src : Gray8) (s : SnappedDirection) (transitions amplitude : ℕ) (before : Float)
     → Determines length
-    (λ swings swings′ after r. LengthMeasuredC src d transitions amplitude before after swings swings′ r)
-length-determined src d transitions amplitude before =
-    outcome-determines length (lengthDecision src d transitions amplitude) numberOf (outsOnly pixelsOf)
+    (λ swings swings′ after r. LengthMeasuredC src s transitions amplitude before after swings swings′ r)
+length-determined src s transitions amplitude before =
+    outcome-determines length (snappedDecision src s transitions amplitude) numberOf (outsOnly pixelsOf)
     (outs-one pixelsOf) before
 
 pub pgm-read-determined : (file : List ℕ) (before : PgmPicture)

@@ -9,12 +9,12 @@ use lib.ListN.{length, take}
 use Rattle.image.specs.Call.{Gray8, Decision, accepts, numberOf, frontWrites, Outcome, withOuts, outsOnly, Returns}
 use Rattle.image.specs.Same.{SamePicture, SameLayout, SameEnd}
 use Rattle.image.proofs.Same.{answers-alike}
-use Rattle.raster.specs.declared.direction.RasterDirection4.{RasterDirection4}
+use Rattle.raster.specs.declared.direction.SnappedDirection.{SnappedDirection}
 use Rattle.tensor.specs.Tensor.{directionDecision}
 use Rattle.tensor.proofs.Same.{direction-same}
 use Rattle.swings.specs.declared.Swing.{Swing}
-use Rattle.blur.specs.Length.{lengthDecision}
-use Rattle.blur.proofs.SameLength.{length-same}
+use Rattle.blur.specs.Length.{snappedDecision}
+use Rattle.blur.proofs.SameLength.{snapped-same}
 use Rattle.deblur.specs.Calls.{restorationAnswer, filterDecision, filterWrites, estimateDecision, estimateWrites}
 use Rattle.deblur.specs.Settings.{LineFilter}
 use Rattle.deblur.proofs.Same.{filter-same, filtered-same, estimate-call-same, estimates-same}
@@ -99,12 +99,12 @@ module _ {a b : Gray8} (same : SamePicture a b) where
       → SameOuts (directionDecision a) after after′ r r′
   direction-same-c = outs-alike (direction-same same)
 
-  pub measured-same-c : (d : RasterDirection4) (transitions amplitude : ℕ) {before after before′ after′ : Float}
+  pub measured-same-c : (s : SnappedDirection) (transitions amplitude : ℕ) {before after before′ after′ : Float}
       {swings swings₁ swings′ swings₁′ : List Swing} {r r′ : ℕ} → length swings ≡ length swings′
-      → LengthMeasuredC a d transitions amplitude before after swings swings₁ r
-      → LengthMeasuredC b d transitions amplitude before′ after′ swings′ swings₁′ r′
-      → SameOuts (lengthDecision a d transitions amplitude (length swings)) after after′ r r′
-  measured-same-c d transitions amplitude lent = outs-alike (length-same same d transitions amplitude lent)
+      → LengthMeasuredC a s transitions amplitude before after swings swings₁ r
+      → LengthMeasuredC b s transitions amplitude before′ after′ swings′ swings₁′ r′
+      → SameOuts (snappedDecision a s transitions amplitude (length swings)) after after′ r r′
+  measured-same-c s transitions amplitude lent = outs-alike (snapped-same same transitions amplitude s lent)
 
   pub estimates-same-c : {old old′ new new′ : List ℤ} (f : LineFilter) {scratch scratch₁ scratch′ scratch₁′ : List ℤ}
       {before after before′ after′ r r′ : ℕ} → length old ≡ length old′ → length scratch ≡ length scratch′

@@ -4,14 +4,14 @@ use Prim.Native.Nat.{ℕ}
 use lib.Ieee.{Float, binary64, ofBits}
 use lib.ListN.{length}
 use Rattle.image.specs.Call.{Gray8, Decision, accepts, refuses, numberOf, outsOnly, Outcome}
-use Rattle.raster.specs.declared.direction.RasterDirection4.{RasterDirection4}
+use Rattle.raster.specs.declared.direction.SnappedDirection.{SnappedDirection}
 use Rattle.swings.specs.declared.Swing.{Swing}
 use Rattle.blur.specs.declared.length.LineLength.{LineLength}
 use Rattle.blur.specs.declared.length.LineLength.the-variants.{Found, Nothing}
 use Rattle.blur.specs.declared.length.LengthAnswer.{LengthAnswer}
 use Rattle.blur.specs.declared.length.LengthAnswer.the-variants.{Length, Refused}
 use Rattle.blur.specs.declared.length.LineLengthConfig.{LineLengthConfig}
-use Rattle.blur.specs.Length.{lengthDecision}
+use Rattle.blur.specs.Length.{snappedDecision}
 
 abbrev pub lengthConfig : ℕ → ℕ → LineLengthConfig
 lengthConfig transitions amplitude = record { «minimum_transitions» = transitions; «minimum_amplitude» = amplitude }
@@ -26,7 +26,7 @@ abbrev pub pixelsOf : LineLength → Float
 pixelsOf (Found pixels) = pixels
 pixelsOf Nothing = ofBits binary64 0
 
-abbrev pub LengthMeasuredC : Gray8 → RasterDirection4 → ℕ → ℕ → Float → Float → List Swing → List Swing → ℕ → Type 0
-LengthMeasuredC src d transitions amplitude before after swings swings′ r =
-    Outcome (lengthDecision src d transitions amplitude (length swings)) numberOf (outsOnly pixelsOf) before after
+abbrev pub LengthMeasuredC : Gray8 → SnappedDirection → ℕ → ℕ → Float → Float → List Swing → List Swing → ℕ → Type 0
+LengthMeasuredC src s transitions amplitude before after swings swings′ r =
+    Outcome (snappedDecision src s transitions amplitude (length swings)) numberOf (outsOnly pixelsOf) before after
     swings swings′ r

@@ -2,17 +2,21 @@
 ghost use mathlib.Core.Path.{_≡_};
 ghost use Rattle.image.specs.Call.{gray8, Returns};
 ghost use Rattle.tensor.specs.Tensor.{directionDecision};
-ghost use Rattle.raster.specs.Direction.{directionIndex, fromAngle};
-ghost use Rattle.smear_c.specs.Direction.{directionOuts};
+ghost use Rattle.raster.specs.Direction.{fromAngle};
+ghost use Rattle.smear_c.specs.Direction.{snappedIndex, directionOuts};
 use raster::direction::RasterDirection4;
+use raster::direction::SnappedDirection;
 use tensor::direction::DirectionAnswer;
 use tensor::estimate_line_direction;
 
 #[no_mangle]
 pub extern "C" fn smear_direction_from_angle(angle: f64) -> u8
-    ensures { λ r. ⌜ r ≡ directionIndex (fromAngle angle) ⌝ }
+    ensures { λ r. ⌜ r ≡ snappedIndex (fromAngle angle) ⌝ }
 {
-    RasterDirection4::from_angle(angle).index()
+    match RasterDirection4::from_angle(angle) {
+        SnappedDirection::Found(direction) => direction.index(),
+        SnappedDirection::Nothing => 4,
+    }
 }
 
 #[no_mangle]

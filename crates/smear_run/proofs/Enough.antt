@@ -16,6 +16,8 @@ use Rattle.image.proofs.Call.{number-decided}
 use Rattle.image.proofs.Pair.{laid-pair}
 use Rattle.deblur.specs.Refusal.{scratchNeeded, scratchShort, inOrder, filterRefusal}
 use Rattle.deblur.specs.Settings.{LineFilter, restorationOf, unsharpOf}
+use Rattle.deblur.specs.Calls.{decidedAlong}
+use Rattle.deblur.proofs.Decided.{number-along}
 use Rattle.deblur.proofs.Conditions.{restoration-other, unsharp-other, pair-ten}
 use Rattle.sharpen.specs.Call.{binomialRefusal}
 use Rattle.job.specs.Floor.{planWithout}
@@ -48,8 +50,9 @@ number-makes : {R : Type 0} (f : R → Made) (d : Decision R) → numberOf (make
 number-makes f (accepts found) = refl
 number-makes f (refuses number) = refl
 
-decided-10 : {R : Type 0} (f : R → Made) (n : ℕ) (found : R) → makes f (decided n found) ≡ refuses 10 → n ≡ 10
-decided-10 f n found e = sym (number-makes f (decided n found) ∙ number-decided n found) ∙ ap numberOf e
+-- the number of what was decided
+made-10 : {R : Type 0} (f : R → Made) (d : Decision R) {n : ℕ} → numberOf d ≡ n → makes f d ≡ refuses 10 → n ≡ 10
+made-10 f d is e = sym (number-makes f d ∙ is) ∙ ap numberOf e
 
 module _ (r : Record) (picture : List ℕ) where
   abbrev w : ℕ
@@ -78,7 +81,8 @@ module _ (r : Record) (picture : List ℕ) where
   line-never f other e =
       let short = scratchShort w h lineScratch in
       lent-never (f .refusal w h) short other line-enough
-      (decided-10 (lineMade r f picture) (inOrder pair (f .refusal w h) short) (f .direction) e)
+      (made-10 (lineMade r f picture) (decidedAlong (inOrder pair (f .refusal w h) short) (f .direction))
+      (number-along _ (f .direction)) e)
 
   -- document 02, K6: "A job record runs with floor 0."
   module _ (relaxation : Float) where
@@ -108,7 +112,7 @@ module _ (r : Record) (picture : List ℕ) where
     binomial-never e =
         let short = ltb mostPixels (w * h) in
         lent-never 0 short (λ z. omega arith) (λ _. le-ltb mostPixels (w * h) small)
-        (decided-10 (binomialMade r picture) (inOrder pair 0 short) tt e)
+        (made-10 (binomialMade r picture) (decided (inOrder pair 0 short) tt) (number-decided _ tt) e)
 
     pub never-10 : stage r picture ≡ refuses 10 → ⊥
     never-10 = go (r .filter) refl

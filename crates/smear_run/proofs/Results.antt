@@ -7,6 +7,10 @@ use Prim.Native.Nat.{ℕ, zero, suc, _*_, _≤_}
 use native.Mathlib.Omega.{arith}
 use lib.Ieee.{Float}
 use lib.ListN.{length}
+use Rattle.raster.specs.declared.direction.RasterDirection4.{RasterDirection4}
+use Rattle.raster.specs.declared.direction.SnappedDirection.{SnappedDirection}
+use Rattle.raster.specs.declared.direction.SnappedDirection.the-variants.{Found, Nothing}
+use Rattle.deblur.specs.Calls.{decidedAlong}
 use Rattle.deblur.specs.Refusal.{filterRefusal, LengthTaken}
 use Rattle.deblur.specs.Settings.{LineFilter, restorationOf, unsharpOf}
 use Rattle.deblur.proofs.Refusals.{restoration-taken, unsharp-taken, filter-accepted}
@@ -53,6 +57,13 @@ decided-written : {R : Type 0} (f : R → Made) (n : ℕ) (found : R)
 decided-written f zero found h = h refl
 decided-written f (suc n) found h = tt
 
+-- .. along the direction that an angle snaps to
+along-written : (f : RasterDirection4 → Made) (n : ℕ) (s : SnappedDirection)
+    → ((d : RasterDirection4) → n ≡ 0 → writeNumber (recordFields (f d .result)) ≡ 0)
+    → Written (makes f (decidedAlong n s))
+along-written f n (Found d) h = decided-written f n d (h d)
+along-written f n Nothing h = tt
+
 module _ (bytes : List ℕ) (r : Record) (reads : readRecord bytes ≡ read.Record r)
     (is-job : isJob r ≡ true) (picture : List ℕ) where
   line-written : (f : LineFilter) → (f .refusal (r .width) (r .height) ≡ 0
@@ -62,10 +73,11 @@ module _ (bytes : List ℕ) (r : Record) (reads : readRecord bytes ≡ read.Reco
       let w = r .width in
       let h = r .height in
       let n = f .refusal w h in
-      decided-written (lineMade r f picture) (filterRefusal (length picture) w h w (w * h) w h w n lineScratch) _
-      λ none.
+      along-written (lineMade r f picture) (filterRefusal (length picture) w h w (w * h) w h w n lineScratch)
+      (f .direction)
+      λ d none.
       let t = taken (filter-accepted (length picture) w h w (w * h) w h w n lineScratch none .settings-taken) in
-      used-written bytes r reads (f .direction) (r .«blur_length») (r .estimate) line
+      used-written bytes r reads d (r .«blur_length») (r .estimate) line
       (length-legal (r .width) (r .height) (r .«blur_length») (t .least) (t .odd) (t .most)) (job-estimate r is-job)
 
   job-written : (relaxation : Float) → filterCode (r .filter) ≤ 2 → Written (wholeJob r relaxation picture)

@@ -19,6 +19,7 @@ use Rattle.image.specs.Same.{SamePicture}
 use Rattle.image.proofs.Front.{fronts-alike}
 use Rattle.image.proofs.Refusal.{place-within}
 use Rattle.image.proofs.Tight.{pixels-same}
+use Rattle.deblur.specs.Calls.{decidedAlong}
 use Rattle.deblur.specs.Settings.{LineFilter, restorationOf, unsharpOf}
 use Rattle.deblur.proofs.RowStride.{walked-tight}
 use Rattle.deblur.proofs.Same.{filter-refusal-same, last-same}
@@ -92,7 +93,7 @@ module _ (r : Record) {p q : List ℕ} (same : SamePicture (tight r p) (tight r 
   line-same : (f : LineFilter) → printed r (lineStage r f p) ≡ printed r (lineStage r f q)
   line-same f =
       made-same (lineMade r f p) (lineMade r f q)
-      (ap (λ (n : ℕ). decided n (f .direction))
+      (ap (λ (n : ℕ). decidedAlong n (f .direction))
       (filter-refusal-same same (r .width * r .height) (r .width) (r .height) (r .width) (f .refusal) lineScratch))
       (λ _. refl)
       (λ d c y hc hy. ap clampByte (last-same same (f .kernel) d c y hc hy))

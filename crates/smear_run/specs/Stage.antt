@@ -9,7 +9,7 @@ use Rattle.image.specs.Call.{Gray8, gray8, Decision, accepts, refuses, decided}
 use Rattle.image.specs.Picture.{pixel}
 use Rattle.image.specs.Refusal.{maxSide}
 use Rattle.raster.specs.declared.direction.RasterDirection4.{RasterDirection4}
-use Rattle.deblur.specs.Calls.{lastEstimate}
+use Rattle.deblur.specs.Calls.{decidedAlong, lastEstimate}
 use Rattle.deblur.specs.Refusal.{scratchNeeded, filterRefusal}
 use Rattle.deblur.specs.Settings.{LineFilter, restorationOf, unsharpOf}
 use Rattle.deblur.specs.declared.DirectionalUnsharpConfig.{DirectionalUnsharpConfig}
@@ -95,7 +95,7 @@ lineMade r f picture d =
 abbrev pub lineStage : Record → LineFilter → List ℕ → Decision Made
 lineStage r f picture =
     makes (lineMade r f picture)
-    (decided
+    (decidedAlong
     (filterRefusal (length picture) (r .width) (r .height) (r .width) (r .width * r .height)
     (r .width) (r .height) (r .width)
     (f .refusal (r .width) (r .height)) lineScratch)

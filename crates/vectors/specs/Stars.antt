@@ -28,16 +28,18 @@ use Rattle.raster.specs.declared.border.LineBorderMode.the-variants.{Replicate,
 use Rattle.raster.specs.declared.border.BorderSample.{BorderSample}
 use Rattle.raster.specs.declared.border.BorderSample.the-variants.{Inside}
 use Rattle.raster.specs.declared.direction.RasterDirection4.{RasterDirection4}
-use Rattle.raster.specs.declared.direction.RasterDirection4.the-variants.{Horizontal, DownRight}
+use Rattle.raster.specs.declared.direction.RasterDirection4.the-variants.{Horizontal, DownRight, Vertical, DownLeft}
+use Rattle.raster.specs.declared.direction.SnappedDirection.{SnappedDirection}
+use Rattle.raster.specs.declared.direction.SnappedDirection.the-variants as snapped
 use Rattle.line.specs.Iteration as iteration
 use Rattle.line.specs.Line.{sample, window, mean}
-use Rattle.blur.specs.Length.{lengthDecision, lengthAnswer}
+use Rattle.blur.specs.Length.{lengthDecision, snappedDecision, lengthAnswer}
 use Rattle.swings.specs.Rise.{levelOf, crossedAt, placeAt, crossingOf, riseBetween}
 use Rattle.swings.specs.Swings.{swingsFrom}
 use Rattle.tensor.specs.Confidence.{passes}
 use Rattle.tensor.specs.Tensor.{gradientX, gradientY, rowSum, interiorSum, tensorSums, tensorDirection, estimateOf}
 use Rattle.blur.specs.declared.length.LengthAnswer.{LengthAnswer}
-use Rattle.blur.specs.declared.length.LengthAnswer.the-variants.{Length}
+use Rattle.blur.specs.declared.length.LengthAnswer.the-variants as lengths
 use Rattle.blur.specs.declared.length.LineLength.the-variants.{Found, Nothing}
 use Rattle.deblur.specs.Calls as calls
 use Rattle.deblur.specs.Picture.{estimate, estimateOn}
@@ -156,9 +158,13 @@ data Question : Type 0 where
   job-lent : ℕ → ℕ → ℕ → ℕ → Question
   -- document 02, K6: the whole job by a picture, its sides, the scratch, and the floor
   job-floor : List ℕ → ℕ → ℕ → ℕ → ℕ → Question
+  -- document 02, K7: the length of a picture of 2 by 2, by the angle, its bytes, and the records
+  length-of-four : ℕ → List ℕ → ℕ → Question
+  -- .. and the row restored along an angle, by the iterations
+  row-along : ℕ → ℕ → Question
 
 data Answer : Type 0 where
-  direction : RasterDirection4 → Answer
+  direction : SnappedDirection → Answer
   measured : LengthAnswer → Answer
   source : BorderSample → Answer
   level : ℤ → Answer
@@ -186,31 +192,41 @@ written : ℕ → (ℕ → ℕ → ℕ) → Answer
 unfolding unless five
 written number f = unless number (pixels (five f))
 
+-- what a call gives along its direction, or its refusal
+along : Decision RasterDirection4 → (RasterDirection4 → Answer) → Answer
+along (accepts d) f = f d
+along (refuses number) f = refused number
+
 -- the row through a line filter, with the scratch that is asked
 filtered : LineFilter → Answer
-unfolding row written
+unfolding row along five
 filtered f =
-    written (deblur.filterRefusal 5 5 1 5 5 5 1 5 (f .refusal 5 1) 15)
-    (λ c r. clampByte (calls.lastEstimate (gray8 row 5 1 5) (f .kernel) (f .direction) c r))
+    along (calls.filterDecision (gray8 row 5 1 5) (gray8 row 5 1 5) f 15)
+    (λ d. pixels (five (λ c r. clampByte (calls.lastEstimate (gray8 row 5 1 5) (f .kernel) d c r))))
 
 -- the drum's row through the estimate call, with the room that is asked
 estimated : LineFilter → Answer
-unfolding drum unless five
+unfolding drum along five
 estimated f =
-    unless (deblur.estimateRefusal 5 5 1 5 5 (f .refusal 5 1) 15)
-    (levels (five (calls.lastEstimate (gray8 drum 5 1 5) (f .kernel) (f .direction))))
+    along (calls.estimateDecision (gray8 drum 5 1 5) 5 f 15)
+    (λ d. levels (five (calls.lastEstimate (gray8 drum 5 1 5) (f .kernel) d)))
 
--- a restoration along Horizontal with relaxation 1
-along-row : ℕ → ℕ → LineBorderMode → LineFilter
-along-row L iterations border =
+-- a restoration along an angle with relaxation 1
+along-angle : ℕ → ℕ → ℕ → LineBorderMode → LineFilter
+along-angle angle L iterations border =
     restorationOf
     (record {
-      «theta_radians» = ofBits binary64 0;
+      «theta_radians» = ofBits binary64 angle;
       «blur_length» = L;
       iterations = iterations;
       relaxation = ofBits binary64 0x3ff0_0000_0000_0000;
       border = border;
     })
+
+-- .. along Horizontal
+along-row : ℕ → ℕ → LineBorderMode → LineFilter
+unfolding along-angle
+along-row = along-angle 0
 
 -- the bytes that a call writes, or its refusal
 bytes : Decision (List ℕ) → Answer
@@ -218,7 +234,7 @@ bytes (accepts xs) = pixels xs
 bytes (refuses number) = refused number
 
 value : Question → Answer
-unfolding three-ramps row written filtered estimated along-row bytes
+unfolding three-ramps row written filtered estimated along-angle along-row bytes
 value (direction-of angle) = direction (fromAngle (ofBits binary64 angle))
 value (length-of-ramps minimum) =
     measured (lengthAnswer (lengthDecision (gray8 three-ramps 10 3 10) Horizontal minimum 24 30))
@@ -263,6 +279,9 @@ value (job-lent w h scratch records) =
 value (job-floor xs w h scratch c) =
     let config = configFloor c jobDefault in
     planned (jobAnswer (plan (jobOf (gray8 xs w h w) (layout (w * h) w h w) config scratch (w * h))))
+value (length-of-four angle xs records) =
+    measured (lengthAnswer (snappedDecision (gray8 xs 2 2 2) (fromAngle (ofBits binary64 angle)) 8 24 records))
+value (row-along angle iterations) = filtered (along-angle angle 3 iterations Replicate)
 
 -- ---- the list
 
@@ -278,13 +297,13 @@ cases : List Case
 unfolding _gives_ restored-over sharpened-over-3 binomial vertical-over-11 none row p5 d1 d255 d1025 beyond three-ramps
     corner equal
 cases =
-    -- "0.39 gives Horizontal★, 0.40 DownRight★, .. NaN Horizontal★"
-    direction-of 0x3fd8_f5c2_8f5c_28f6 gives direction Horizontal
-    ∷ direction-of 0x3fd9_9999_9999_999a gives direction DownRight
-    ∷ direction-of 0x7ff8_0000_0000_0000 gives direction Horizontal
+    -- "0.39 gives Horizontal★, 0.40 DownRight★, .. NaN ..★", which has none by document 02, K7
+    direction-of 0x3fd8_f5c2_8f5c_28f6 gives direction (snapped.Found Horizontal)
+    ∷ direction-of 0x3fd9_9999_9999_999a gives direction (snapped.Found DownRight)
+    ∷ direction-of 0x7ff8_0000_0000_0000 gives direction snapped.Nothing
     -- "5.0 with minimum 3★, Nothing with 4★"
-    ∷ length-of-ramps 3 gives measured (Length (Found (ofBits binary64 0x4014_0000_0000_0000)))
-    ∷ length-of-ramps 4 gives measured (Length Nothing)
+    ∷ length-of-ramps 3 gives measured (lengths.Length (Found (ofBits binary64 0x4014_0000_0000_0000)))
+    ∷ length-of-ramps 4 gives measured (lengths.Length Nothing)
     -- "n = 4, Reflect: −2 gives 2★, 7 gives 1★. Samples −1, 0, 0, L = 3, middle: −1★."
     ∷ sample-at Reflect 4 (negsuc 1) gives source (Inside 2)
     ∷ sample-at Reflect 4 (pos 7) gives source (Inside 1)
@@ -384,6 +403,29 @@ cases =
     ∷ job-floor row 5 1 15 1 gives planned (Refused 17)
     ∷ job-floor corner 4 3 11 300 gives planned (Refused 10)
     ∷ job-floor corner 4 3 12 300 gives planned (Refused 17)
+    -- K7: the last angle with a direction, and negated; 1e306; then the next double, and negated; 1e307; the largest;
+    -- the infinities
+    ∷ direction-of 0x7f91_df46_a252_9d38 gives direction (snapped.Found DownRight)
+    ∷ direction-of 0xff91_df46_a252_9d38 gives direction (snapped.Found DownLeft)
+    ∷ direction-of 0x7f76_c8e5_ca23_9029 gives direction (snapped.Found Vertical)
+    ∷ direction-of 0x7f91_df46_a252_9d39 gives direction snapped.Nothing
+    ∷ direction-of 0xff91_df46_a252_9d39 gives direction snapped.Nothing
+    ∷ direction-of 0x7fac_7b1f_3cac_7433 gives direction snapped.Nothing
+    ∷ direction-of 0x7fef_ffff_ffff_ffff gives direction snapped.Nothing
+    ∷ direction-of 0x7ff0_0000_0000_0000 gives direction snapped.Nothing
+    ∷ direction-of 0xfff0_0000_0000_0000 gives direction snapped.Nothing
+    -- "NaN on 2 by 2 gives 7", between 4 and 10
+    ∷ length-of-four 0x7ff8_0000_0000_0000 (replicate 4 0) 4 gives measured (lengths.Refused 7)
+    ∷ length-of-four 0x7ff8_0000_0000_0000 (replicate 3 0) 0 gives measured (lengths.Refused 4)
+    ∷ length-of-four 0x7ff8_0000_0000_0000 (replicate 4 0) 3 gives measured (lengths.Refused 7)
+    ∷ length-of-four 0 (replicate 4 0) 3 gives measured (lengths.Refused 10)
+    ∷ length-of-four 0 (replicate 4 0) 4 gives measured (lengths.Length Nothing)
+    -- line filters: along DownRight each pixel of the row is a line of its own; 7 stands before 8; a record gives 13
+    ∷ row-along 0x7f91_df46_a252_9d38 1 gives pixels row
+    ∷ row-along 0x7f91_df46_a252_9d39 1 gives refused 7
+    ∷ row-along 0x7f91_df46_a252_9d39 0 gives refused 7
+    ∷ sheet-of (take 16 (restored-over 3) ++ (0x39 ∷ 0x9d ∷ 0x52 ∷ 0xa2 ∷ 0x46 ∷ 0xdf ∷ 0x91 ∷ 0x7f ∷ replicate 8 0))
+    gives sheet (summary.Refused 13 0)
     ∷ []
 
 -- ---- the theorem
@@ -391,7 +433,7 @@ cases =
 stars : map (λ c. value (c .asked)) cases ≡ map (λ c. c .must-be) cases
 unfolding cases value ofBits ofInt add sub mul div rem le lt eq fromAngle lengthDecision layoutRefusal pairRefusal
     startCol startRow lineOf swingsFrom levelOf crossedAt placeAt crossingOf riseBetween borderMap iteration.mean window
-    sample total quantized deblur.filterRefusal deblur.estimateRefusal deblur.blurLengthRefusal deblur.angleRefusal
+    sample total quantized deblur.filterRefusal deblur.estimateRefusal deblur.blurLengthRefusal
     deblur.factorRefusal deblur.iterationsRefusal estimate estimateOn iteration.after iteration.stepped plan
     startRefusal passes jobRefusal pictureDirection estimateOf tensorSums tensorDirection interiorSum rowSum gradientX
     gradientY binomialRefusal sharper binomialSum tapPlace count summarized readRecord recordOf decoded legal

@@ -11,6 +11,7 @@ use deblur::directional_unsharp_line_into;
 use deblur::van_cittert_line_into;
 use raster::border::LineBorderMode;
 use raster::direction::RasterDirection4;
+use raster::direction::SnappedDirection;
 use sharpen::fixed_binomial_unsharp_into;
 use swings::Swing;
 use tensor::direction::DirectionAnswer;
@@ -36,6 +37,14 @@ fn directed(direction: RasterDirection4) -> Outcome {
         number: 0,
         found: direction.index(),
         estimate: 0.0,
+    }
+}
+
+// No case of the list has an angle without a direction.
+fn snapped(answer: SnappedDirection) -> Outcome {
+    match answer {
+        SnappedDirection::Found(direction) => directed(direction),
+        SnappedDirection::Nothing => refused(7),
     }
 }
 
@@ -168,7 +177,7 @@ fn direct(c: Case, source: &[u8]) -> Outcome {
 pub(crate) fn call(c: Case, source: &[u8], destination: &mut [u8]) -> Outcome {
     let call = c.call;
     match call {
-        0 => directed(RasterDirection4::from_angle(c.angle)),
+        0 => snapped(RasterDirection4::from_angle(c.angle)),
         1 => direct(c, source),
         2 => measure(c, source),
         3 => restore(c, source, destination),

@@ -2,7 +2,7 @@
 ghost use mathlib.Core.Path.{_≡_};
 ghost use Rattle.raster.specs.Direction.{fromAngle};
 ghost use Rattle.image.specs.Call.{gray8};
-ghost use Rattle.blur.specs.Length.{lengthDecision, lengthAnswer};
+ghost use Rattle.blur.specs.Length.{snappedDecision, lengthAnswer};
 use blur::length::LengthAnswer;
 use blur::length::LineLengthConfig;
 use blur::length::estimate_line_length_with;
@@ -20,7 +20,7 @@ pub(crate) fn length_at(
     none: Swing,
 ) -> LengthAnswer
     ensures { λ r. ⌜ r ≡ lengthAnswer
-        (lengthDecision (gray8 (now («data» .entry)) width height stride) (fromAngle «theta_radians»)
+        (snappedDecision (gray8 (now («data» .entry)) width height stride) (fromAngle «theta_radians»)
         (config .«minimum_transitions») (config .«minimum_amplitude») 256) ⌝ }
 {
     let mut swings = [none; 256];

@@ -1,7 +1,7 @@
 // Each call of the stage over views, for callers who hold pictures as views. A call's contract is the core's own, at
 // the views' fields.
 ghost use mathlib.Core.Path.{_≡_};
-ghost use Rattle.blur.specs.Length.{LengthMeasured, defaults};
+ghost use Rattle.blur.specs.Length.{SnappedMeasured, defaults};
 ghost use Rattle.tensor.specs.Tensor.{directionAnswer, directionDecision};
 ghost use Rattle.deblur.specs.Calls.{Filtered, EstimateWritten};
 ghost use Rattle.deblur.specs.Settings.{restorationOf, unsharpOf};
@@ -36,7 +36,7 @@ pub fn estimate_line_length_with<'a>(
     config: LineLengthConfig,
     swings: &mut [Swing],
 ) -> LengthAnswer
-    ensures { λ r. ⌜ LengthMeasured (seen (src .entry)) (fromAngle «theta_radians») (config .«minimum_transitions»)
+    ensures { λ r. ⌜ SnappedMeasured (seen (src .entry)) (fromAngle «theta_radians») (config .«minimum_transitions»)
         (config .«minimum_amplitude»)
         (now (swings .entry)) (now (swings .exit)) r ⌝ }
 {
@@ -56,7 +56,7 @@ pub fn estimate_line_length<'a>(
     theta_radians: f64,
     swings: &mut [Swing],
 ) -> LengthAnswer
-    ensures { λ r. ⌜ LengthMeasured (seen (src .entry)) (fromAngle «theta_radians») (defaults .«minimum_transitions»)
+    ensures { λ r. ⌜ SnappedMeasured (seen (src .entry)) (fromAngle «theta_radians») (defaults .«minimum_transitions»)
         (defaults .«minimum_amplitude»)
         (now (swings .entry)) (now (swings .exit)) r ⌝ }
 {

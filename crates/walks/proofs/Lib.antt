@@ -7,7 +7,7 @@
 --     Passing      a walk through several calls, each reference an entry of its own
 --     Locals       the locals as one entry of the context.        Straight   code without a branch, run by computation
 --     Turn         a `while` loop with such locals.               Open       a slice opened for it, and its elements
---     Call         what a callee asks, and what it has answered
+--     Call         what a callee asks, and what it has answered.  Variant    an enum taken apart by a `let .. else`
 --     Loop         a loop with a state and a measure.             Fold       the state of a pass over records
 --     Lend         a row of elements is lent for one call, as a `&mut [T]` or as a `&[T]`
 --     LocalArray   a local array as such a row.                   Each, Lists    laws on lists
@@ -32,4 +32,5 @@ pub mod Script
 pub mod Straight
 pub mod Tuple
 pub mod Turn
+pub mod Variant
 pub mod Walk

@@ -1,6 +1,7 @@
 //! Which cases the list has: chosen ones for every branch, and seeded ones beside them.
 
 use super::{Call, Case, OLD};
+use crate::degrees::{around, LAST};
 use crate::picture::Picture;
 use crate::random::Random;
 use qr_lab_imgproc::deblur::LineBorderMode;
@@ -97,13 +98,11 @@ const SIZES: [(usize, usize); 12] =
 
 fn from_angle() -> Vec<Case> {
     let mut angles = vec![
-        0.39, 0.40, -1.0, 3.0, f64::NAN, 0.0, -0.0, f64::INFINITY, f64::NEG_INFINITY,
-        f64::MAX, f64::MIN_POSITIVE, f64::from_bits(1), -1e-300,
+        0.39, 0.40, -1.0, 3.0, 0.0, -0.0, 1e306, LAST, -LAST, f64::MIN_POSITIVE, f64::from_bits(1), -1e-300,
     ];
     // the boundaries of the snap, and a step to either side
     for k in [-15, -9, -7, -5, -3, -1, 1, 3, 5, 7, 8, 9, 15] {
-        let bits = (f64::from(k) * std::f64::consts::PI / 8.0).to_bits();
-        angles.extend((bits - 1..=bits + 1).map(f64::from_bits));
+        angles.extend(around(f64::from(k) * std::f64::consts::PI / 8.0, 1));
     }
     let none = Picture { data: Vec::new(), width: 0, height: 0, stride: 0 };
     angles.into_iter().map(|angle| Case { angle, ..Case::new(Call::FromAngle, none.clone()) }).collect()
@@ -151,15 +150,16 @@ fn length(random: &mut Random) -> Vec<Case> {
         let d = 1 + k % 3;
         add(lines_of(d, line), ALONG[d], 1 + k % 2, 1);
     }
-    // no threshold, the least swing reached and missed, more swings than there are, an angle that is none
+    // no threshold, the least swing reached and missed, more swings than there are, far angles
     for (angle, count, amplitude) in [
         (0.0, 0, 24),
         (0.0, 1, 0),
         (0.0, 1, 250),
         (0.0, 1, 251),
         (0.0, 65_535, 1),
-        (f64::NAN, 1, 24),
-        (f64::INFINITY, 1, 24),
+        (LAST, 1, 24),
+        (-LAST, 1, 24),
+        (1e306, 1, 24),
         (-1.6, 1, 24),
     ] {
         add(lines_of(0, LINES[0]), angle, count, amplitude);
@@ -237,12 +237,12 @@ fn line_filter(random: &mut Random, call: Call, limit: f64) -> Vec<Case> {
     // at each limit, and beyond it
     out.push(Case { length: 11, ..row.clone() });
     out.extend([0, 1, 2, 4, 12, 13].map(|length| Case { length, ..row.clone() }));
-    out.extend([f64::NAN, f64::INFINITY, f64::NEG_INFINITY].map(|angle| Case { angle, ..row.clone() }));
     out.extend(
         [f64::NAN, f64::INFINITY, -0.5, -1e-9, f64::from_bits(limit.to_bits() + 1)]
             .map(|factor| Case { factor, ..row.clone() }),
     );
     let square = Case::new(call, noise(random, 4, 3));
+    out.extend([LAST, -LAST, 1e306].map(|angle| Case { angle, ..square.clone() }));
     out.extend(refused_layouts(&square.source).map(|source| Case { source, ..square.clone() }));
     out.extend(refused_destinations(&square));
     out

@@ -2,7 +2,7 @@
 use borrow.Author.Needs.{needs}
 use Rattle.record.specs.Record.{recordOf}
 use Rattle.record.proofs.Doubles.{finite-pattern}
-use Rattle.record.proofs.Legal.{Sound, sound}
+use Rattle.record.proofs.Legal.{angle-finite, Sound, sound}
 use Rattle.record.proofs.record_of.Statement.{statement}
 use Rattle.record.proofs.record_of.Tie as tie
 
@@ -16,7 +16,7 @@ within : (c : tie.Start) → Sound (c .args .filter) (c .args .fields)
 within c = sound (c .args .fields) (c .args .filter) (c .pre)
 
 float-from-bits-t5 : tie.Need-float-from-bits-t5
-float-from-bits-t5 c = finite-pattern _ (within (c .before .before .before) .angle)
+float-from-bits-t5 c = finite-pattern _ (angle-finite _ (within (c .before .before .before) .angle))
 
 float-from-bits-t6 : tie.Need-float-from-bits-t6
 float-from-bits-t6 c = let first = c .before in finite-pattern _ (within (first .before .before .before) .estimate)

@@ -17,7 +17,7 @@ use Rattle.walks.proofs.Walk.{Shows, meets}
 use Rattle.image.specs.Call.{gray8}
 use Rattle.raster.specs.Direction.{fromAngle}
 use Rattle.swings.specs.declared.Swing.{Swing}
-use Rattle.blur.specs.Length.{LengthMeasured, defaults}
+use Rattle.blur.specs.Length.{SnappedMeasured, defaults}
 use Rattle.blur.specs.declared.length.LengthAnswer.{LengthAnswer}
 use Rattle.blur.specs.declared.length.LineLengthConfig.{LineLengthConfig}
 use Rattle.blur.proofs.Parameters as P
@@ -35,7 +35,7 @@ use Rattle.blur.proofs.length.estimate_line_length.Code as code
 
 abbrev Measured : (κs : Lfts 2) → Args (asked P.with-defaults D.answer .signature) κs → LineLengthConfig → List Swing
     → LengthAnswer → Type 0
-Measured κs a config swings r = LengthMeasured (gray8 (a .0 .now) (a .1 .0) (a .1 .1 .0) (a .1 .1 .1 .0))
+Measured κs a config swings r = SnappedMeasured (gray8 (a .0 .now) (a .1 .0) (a .1 .1 .0) (a .1 .1 .1 .0))
     (fromAngle (a .1 .1 .1 .1 .0)) (config .«minimum_transitions») (config .«minimum_amplitude»)
     (a .1 .1 .1 .1 .1 .0 .now) swings r
 

@@ -1,6 +1,7 @@
 -- `job::plan::start_job` meets its contract.
 use borrow.Author.Needs.{needs}
-use mathlib.Core.Path.{sym, _∙_}
+use mathlib.Core.Path.{sym, ap, _∙_}
+use Rattle.tensor.specs.declared.direction.DirectionAnswer.the-variants.{Refused}
 use Rattle.job.proofs.Assembly.{start-refused, start-direction, start-floor}
 use Rattle.job.proofs.plan.start_job.Statement.{statement}
 use Rattle.job.proofs.plan.start_job.Tie as tie
@@ -14,7 +15,9 @@ refused-start-requires c κs = search needs
 returns : tie.Need-returns
 returns c =
     let s = c .before in
-    rw (c .refused-start .ensures) (start-refused _ _ (s .before .job-refusal .ensures) _ (s .if1 .taken))
+    let start = c .refused-start in
+    start-refused _ _ (start .ensures ∙ s .before .job-refusal .ensures) (start .result .direction)
+    (λ z. s .if1 .taken (sym (start .ensures) ∙ z))
 
 estimate-confident-direction-requires : tie.Need-estimate-confident-direction-requires
 estimate-confident-direction-requires c κs = search needs
@@ -40,9 +43,9 @@ returns-3 c =
     let n = c .before .before in
     let d = n .before .before in
     let s = d .before in
-    rw (c .refused-start2 .ensures)
-    (start-floor _ _ (s .before .job-refusal .ensures) (s .if1 .left) _ _
-    (sym (d .estimate-confident-direction .ensures) ∙ n .number .given .1))
+    let start = c .refused-start2 in
+    start-floor _ _ (s .before .job-refusal .ensures) (s .if1 .left) (start .result .refusal) (start .result .direction)
+    (sym (d .estimate-confident-direction .ensures) ∙ n .number .given .1 ∙ ap Refused (sym (start .ensures)))
 
 pub start-job-spec : {M : Type 1} → statement M
 start-job-spec =

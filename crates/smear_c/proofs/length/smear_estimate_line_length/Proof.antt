@@ -15,7 +15,7 @@ use Rattle.image.proofs.Call.{outs-in-c}
 use Rattle.raster.specs.Direction.{fromAngle}
 use Rattle.swings.specs.declared.Swing.{Swing}
 use Rattle.swings.proofs.Swing as S
-use Rattle.blur.specs.Length.{LengthMeasured}
+use Rattle.blur.specs.Length.{SnappedMeasured}
 use Rattle.blur.specs.declared.length.LengthAnswer.{LengthAnswer}
 use Rattle.blur.specs.declared.length.LineLengthConfig.{LineLengthConfig}
 use Rattle.blur.proofs.Parameters as P
@@ -42,7 +42,7 @@ parameters = had (shared 0 tt u8) ∷ made (uint w64) ∷ made (uint w64) ∷ ma
 
 abbrev Measured : (κs : Lfts 3) → Args (asked parameters (uint w8) .signature) κs → LineLengthConfig → List Swing
     → LengthAnswer → Type 0
-Measured κs a config swings r = LengthMeasured (gray8 (a .0 .now) (a .1 .0) (a .1 .1 .0) (a .1 .1 .1 .0))
+Measured κs a config swings r = SnappedMeasured (gray8 (a .0 .now) (a .1 .0) (a .1 .1 .0) (a .1 .1 .1 .0))
     (fromAngle (a .1 .1 .1 .1 .0)) (config .«minimum_transitions») (config .«minimum_amplitude»)
     (a .1 .1 .1 .1 .1 .1 .1 .0 .now) swings r
 

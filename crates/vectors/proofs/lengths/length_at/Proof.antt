@@ -25,7 +25,7 @@ use Rattle.swings.specs.declared.Swing.{Swing}
 use Rattle.swings.proofs.PlainData.{swing}
 use Rattle.swings.proofs.Swing as S
 use Rattle.swings.proofs.Swing.Laws as S′
-use Rattle.blur.specs.Length.{lengthDecision, lengthAnswer, LengthMeasured}
+use Rattle.blur.specs.Length.{snappedDecision, lengthAnswer, SnappedMeasured}
 use Rattle.blur.proofs.Parameters as P
 use Rattle.blur.proofs.PlainData as D
 use Rattle.blur.proofs.length.estimate_line_length_with as estimate
@@ -42,7 +42,7 @@ parameters = had (shared 0 tt u8) ∷ made (uint w64) ∷ made (uint w64) ∷ ma
 
 abbrev Answers : Shows parameters D.answer
 Answers κs a r ws = let config = a .1 .1 .1 .1 .1 .0 in
-    r ≡ lengthAnswer (lengthDecision (gray8 (a .0 .now) (a .1 .0) (a .1 .1 .0) (a .1 .1 .1 .0)) (fromAngle (a .1 .1 .1
+    r ≡ lengthAnswer (snappedDecision (gray8 (a .0 .now) (a .1 .0) (a .1 .1 .0) (a .1 .1 .1 .0)) (fromAngle (a .1 .1 .1
     .1
     .0)) (config .«minimum_transitions») (config .«minimum_amplitude») 256)
 
@@ -87,7 +87,7 @@ length-at-spec 𝓤 H 𝓜 𝓖 𝓡 =
     (ap (λ (k : ℕ). some (sliceVal (a .0 .ptr) (length (a .0 .now)) ∷ vint w64 (a .1 .0) ∷ vint w64 (a .1 .1 .0) ∷ vint
     w64 (a .1 .1 .1 .0) ∷ vfloat binary64 theta ∷ D.config .val config ∷ sliceVal (bs 8, 0) k ∷ [])) (sym (filled-length
     size none))) tt refl
-    (λ r ws. LengthMeasured src (fromAngle theta) (config .«minimum_transitions») (config .«minimum_amplitude») (filled
+    (λ r ws. SnappedMeasured src (fromAngle theta) (config .«minimum_transitions») (config .«minimum_amplitude») (filled
     size none) (ws .1 .1 .1 .1 .1 .1 .0) r) (λ r ws. id⊢ 𝓤 _) (λ r ws m is.
     let ys = ws .1 .1 .1 .1 .1 .1 .0 in
     -- [locals; token 0; the records' token; the last records; their loan; true]
@@ -95,5 +95,5 @@ length-at-spec 𝓤 H 𝓜 𝓖 𝓡 =
     row-room ! S.the-row size (bs 8) ys (same ∙ filled-length size none) $ nothing ! $ move ! (1 ∷ 0 ∷ []) $ fjoin ! $
     move ! (1 ∷ 0 ∷ []) $ brings-back ! $
     finishes W 1 parameters D.answer κs qs a _ Answers Kf refl ends r (tt ▸ tt ▸ tt ▸ tt ▸ tt ▸ tt ▸ tt ▸ tt) is
-    (m .answered ∙ ap (λ (k : ℕ). lengthAnswer (lengthDecision src (fromAngle theta) (config .«minimum_transitions»)
+    (m .answered ∙ ap (λ (k : ℕ). lengthAnswer (snappedDecision src (fromAngle theta) (config .«minimum_transitions»)
     (config .«minimum_amplitude») k)) (filled-length size none)) refl))))

@@ -1,7 +1,6 @@
 """The whole job through the proved library, for the setting that a record has not: a floor of the direction's
 confidence (document 02, K6)."""
-from ctypes import POINTER, Structure, byref, c_char_p, c_double, c_int32, c_size_t, c_uint8, c_uint16
-from ctypes import create_string_buffer
+from ctypes import POINTER, Structure, byref, c_double, c_int32, c_size_t, c_uint8, c_uint16, create_string_buffer
 from dataclasses import replace
 
 import library
@@ -17,7 +16,6 @@ class Swing(Structure):
     _fields_ = [("width", c_double), ("swing", c_int32)]
 
 
-PICTURE = [c_char_p, *4 * [c_size_t]]
 SETTINGS = [c_size_t, c_uint8, c_uint16, c_size_t, c_double, c_uint8, c_uint8]
 LENT = [POINTER(c_int32), c_size_t, POINTER(Swing), c_size_t]
 MEASURED = [POINTER(c_uint8), POINTER(c_size_t), POINTER(c_double)]
@@ -25,7 +23,7 @@ MEASURED = [POINTER(c_uint8), POINTER(c_size_t), POINTER(c_double)]
 
 def answer(job, pixels, floor):
     """What the program would answer to the record of a whole job and its picture, if the record had a floor."""
-    call = library.function("smear_restore", *PICTURE, *PICTURE, *SETTINGS, *LENT, *MEASURED)
+    call = library.function("smear_restore", *library.PICTURE, *library.PICTURE, *SETTINGS, *LENT, *MEASURED)
     size, layout = len(pixels), (job.width, job.height, job.width)
     out, scratch, swings = create_string_buffer(size), (c_int32 * (3 * max(layout)))(), (Swing * size)()
     direction, length, estimate = c_uint8(), c_size_t(), c_double()

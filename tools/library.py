@@ -11,6 +11,8 @@ ROOT = os.path.dirname(os.path.dirname(os.path.abspath(__file__)))
 HEADER = os.path.join(ROOT, "crates", "smear_c", "include", "smear.h")
 ARCHIVE = os.path.join(ROOT, "target", "staticlib", "libsmear_c.a")
 SHARED = os.path.join(ROOT, "target", "tools", "libsmear_c.so")
+# how a function takes a picture: its bytes, how many these are, width, height and stride
+PICTURE = [ctypes.c_char_p, *4 * [ctypes.c_size_t]]
 
 
 class Failed(Exception):

@@ -1,7 +1,7 @@
 //! ns per pixel (and iteration, where there are some) of the proved library and of the Rust original, and their ratio.
 //! What the original has not stands beside another: the sheet, per record, and reading of PGM headers, per byte, beside
 //! the oracle's plain restatements, writing of PGM beside a copy of the rows, and restoration with Wrap beside our own
-//! with Reflect (the rows `wrap`).
+//! with Reflect (the rows `wrap`). Halvings stand beside the original's and beside a copy.
 //! Each row is the least of several rounds in which the two take turns. Buffers are warm and not cleared between runs.
 //! Time is that of the thread, so that of other work on the machine only what it does to the caches counts.
 
@@ -29,6 +29,7 @@ mod sheet;
 use ffi::*;
 use qr_lab_image::{Gray8View, Gray8ViewMut};
 use qr_lab_imgproc::deblur::{self, DirectionalUnsharpConfig, LineBorderMode, VanCittertConfig};
+use qr_lab_imgproc::internal::box_downscale_half;
 use qr_lab_imgproc::{blur, sharpen};
 use random::Random;
 use sheet::{MOST_RECORDS, NUMBERS};
@@ -158,6 +159,7 @@ fn main() {
     sheets(&only);
     pgm_headers(&only, data);
     pgm_writing(&only, data, &mut other);
+    halvings(&only, data, &mut dst, &mut other);
 }
 
 const DIRECTIONS: [(&str, f64); 4] = [("Horizontal", 0.0), ("DownRight", 0.75), ("Vertical", 1.5), ("DownLeft", 2.25)];
@@ -407,5 +409,54 @@ fn pgm_writing(only: &str, data: &[u8], copy: &mut [u8]) {
                 }
             },
         );
+    }
+}
+
+/// The Rust's halvings, one after the other, of a square picture.
+fn their_halvings(data: &[u8], side: usize, count: usize) -> Option<Vec<u8>> {
+    let mut last = box_downscale_half(&Gray8View::new(data, side, side, side).ok()?)?;
+    for _ in 1..count {
+        last = box_downscale_half(&Gray8View::new(&last.0, last.1, last.2, last.1).ok()?)?;
+    }
+    Some(last.0)
+}
+
+/// A call that halves a square picture so often, beside the Rust's and beside a copy of the picture's bytes.
+fn halving(only: &str, name: &str, data: &[u8], count: usize, copy: &mut [u8], mut ours: impl FnMut()) {
+    let (side, times) = (data.len().isqrt(), PIXELS / data.len());
+    let name = format!("{name}, {side} by {side}");
+    let mut ours = || (0..times).for_each(|_| ours());
+    row(only, &name, PIXELS, &mut ours, || {
+        for _ in 0..times {
+            black_box(their_halvings(black_box(data), side, count)).unwrap();
+        }
+    });
+    row(only, &format!("{name}, beside a copy"), PIXELS, &mut ours, || {
+        for _ in 0..times {
+            copy[..data.len()].copy_from_slice(black_box(data));
+        }
+    });
+}
+
+/// Halvings, ns a pixel of the source: the single call, and once, twice and as often as can be. At least 1.5 times the
+/// Rust's speed is a ratio from 1.5, within 4 times a copy one from 0.25. The smallest picture stays in the first
+/// cache, where a copy is at its fastest.
+fn halvings(only: &str, data: &[u8], dst: &mut [u8], copy: &mut [u8]) {
+    let mut scratch = vec![0; PIXELS];
+    let (dst, scratch) = (dst.as_mut_ptr(), scratch.as_mut_ptr());
+    for side in [SIDE, 256, 64] {
+        let (pixels, half) = (side * side, side / 2);
+        let data = &data[..pixels];
+        halving(only, "half", data, 1, copy, || unsafe {
+            smear_box_downscale_half(data.as_ptr(), pixels, side, side, side, dst, PIXELS, half, half, half);
+        });
+        for count in [1, 2, side.ilog2() as usize] {
+            let left = side >> count;
+            halving(only, &format!("halve x{count}"), data, count, copy, || unsafe {
+                smear_halve(
+                    data.as_ptr(), pixels, side, side, side, dst, PIXELS, left, left, left, count, scratch, PIXELS,
+                );
+            });
+        }
     }
 }

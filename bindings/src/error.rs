@@ -28,7 +28,7 @@ pub enum ImageError {
 pub enum ImgProcError {
     /// Refusals 1 to 5: a picture's layout.
     Image(ImageError),
-    /// Refusal 6: source and destination differ in size.
+    /// Refusal 6: the destination has not the source's size, or of a halving not the size that is left.
     DimensionMismatch,
     /// Refusals 7 and 8: a setting is out of range or not finite, or an angle has no direction.
     InvalidConfiguration,
@@ -42,6 +42,8 @@ pub enum ImgProcError {
     LengthTooLarge,
     /// Refusal 17: the confidence of the picture's direction is below the minimum, or the minimum is above 256.
     LowConfidence,
+    /// Refusal 18: more than 10 halvings, or one that would start from a side below 2.
+    CannotHalve,
 }
 
 /// Refusal 13: a record that has no place on a sheet.
@@ -98,6 +100,7 @@ impl fmt::Display for ImgProcError {
             Self::NoLength => "the picture does not show how long its smear is",
             Self::LengthTooLarge => "the smear is too long for the picture",
             Self::LowConfidence => "the picture's direction is less clear than the minimum confidence",
+            Self::CannotHalve => "more than 10 halvings, or one that starts from a side below 2",
         })
     }
 }
@@ -161,6 +164,7 @@ pub(crate) fn answer(refusal: u8) -> ImgProcResult<()> {
         11 => ImgProcError::NoLength,
         12 => ImgProcError::LengthTooLarge,
         17 => ImgProcError::LowConfidence,
+        18 => ImgProcError::CannotHalve,
         _ => unreachable!("a view has an accepted layout: refusal {refusal}"),
     })
 }

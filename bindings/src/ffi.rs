@@ -60,6 +60,27 @@ pub fn fixed_binomial_unsharp(src: Gray8View<'_>, mut dst: Gray8ViewMut<'_>, scr
     }
 }
 
+pub fn box_downscale_half(src: Gray8View<'_>, mut dst: Gray8ViewMut<'_>) -> u8 {
+    let (width, height, stride) = (dst.width(), dst.height(), dst.stride());
+    unsafe {
+        raw::smear_box_downscale_half(
+            src.bytes().as_ptr(), src.bytes().len(), src.width(), src.height(), src.stride(),
+            dst.bytes().as_mut_ptr(), dst.bytes().len(), width, height, stride,
+        )
+    }
+}
+
+pub fn halve(src: Gray8View<'_>, mut dst: Gray8ViewMut<'_>, count: usize, scratch: &mut [u8]) -> u8 {
+    let (width, height, stride) = (dst.width(), dst.height(), dst.stride());
+    unsafe {
+        raw::smear_halve(
+            src.bytes().as_ptr(), src.bytes().len(), src.width(), src.height(), src.stride(),
+            dst.bytes().as_mut_ptr(), dst.bytes().len(), width, height, stride,
+            count, scratch.as_mut_ptr(), scratch.len(),
+        )
+    }
+}
+
 /// The refusal and the direction.
 pub fn van_cittert_line(src: Gray8View<'_>, mut dst: Gray8ViewMut<'_>, f: Filter, scratch: &mut [i32]) -> (u8, u8) {
     let (width, height, stride) = (dst.width(), dst.height(), dst.stride());

@@ -15,9 +15,12 @@
 //! [`deblur::VanCittertConfig::raster_direction`] an `Option`, of [`blur::estimate_line_length`] and
 //! [`blur::estimate_line_length_with`] a `Result`.
 //!
+//! [`resize::box_downscale_half`] writes into the caller's picture, where that of `qr_lab_imgproc::internal` answers a
+//! `Vec`, and refuses what that has `None` for.
+//!
 //! Added are [`job::restore`], [`deblur::van_cittert_estimate_into`], the border [`deblur::LineBorderMode::Wrap`],
-//! [`summary::summarize`], [`pgm::read`] and [`pgm::write`]. Sides of more than 1,024 pixels and more than 22
-//! iterations are refused.
+//! [`resize::halve`], [`summary::summarize`], [`pgm::read`] and [`pgm::write`]. Sides of more than 1,024 pixels, more
+//! than 22 iterations and more than 10 halvings are refused.
 
 #![deny(unsafe_code)]
 #![warn(missing_docs)]
@@ -31,6 +34,7 @@ pub mod job;
 pub mod pgm;
 #[allow(dead_code)] // all that the header declares
 mod raw;
+pub mod resize;
 mod room;
 pub mod sharpen;
 pub mod summary;

@@ -29,6 +29,17 @@ extern "C" {
         scratch: *mut u16, scratch_len: usize,
     ) -> u8;
 
+    pub fn smear_box_downscale_half(
+        src: *const u8, src_len: usize, width: usize, height: usize, stride: usize,
+        dst: *mut u8, dst_len: usize, dst_width: usize, dst_height: usize, dst_stride: usize,
+    ) -> u8;
+
+    pub fn smear_halve(
+        src: *const u8, src_len: usize, width: usize, height: usize, stride: usize,
+        dst: *mut u8, dst_len: usize, dst_width: usize, dst_height: usize, dst_stride: usize,
+        count: usize, scratch: *mut u8, scratch_len: usize,
+    ) -> u8;
+
     pub fn smear_van_cittert_line(
         src: *const u8, src_len: usize, width: usize, height: usize, stride: usize,
         dst: *mut u8, dst_len: usize, dst_width: usize, dst_height: usize, dst_stride: usize,

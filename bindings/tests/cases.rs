@@ -9,9 +9,10 @@ use smear::deblur::{
 };
 use smear::job::{restore, JobConfig, JobWorkspace};
 use smear::pgm;
+use smear::resize::{box_downscale_half, halve, halved_size, ResizeWorkspace, MAX_HALVINGS};
 use smear::sharpen::{fixed_binomial_unsharp_into, SharpenWorkspace};
 use smear::summary::{summarize, DirectionSummary, RecordSummary};
-use smear::{Gray8View, Gray8ViewMut, ImgProcError, Size};
+use smear::{Gray8View, Gray8ViewMut, ImgProcError, ImgProcResult, Size};
 
 const ROW: [u8; 5] = [10, 10, 40, 10, 10];
 /// The last double whose value in degrees is finite.
@@ -218,6 +219,95 @@ fn the_whole_job_with_a_floor() {
     for minimum_confidence in [251, 256, 257] {
         let config = JobConfig { minimum_confidence, ..JobConfig::default() };
         assert!(run(&config) == (Err(ImgProcError::LowConfidence), vec![9; 60 * 60]), "floor {minimum_confidence}");
+    }
+}
+
+/// A picture without bytes between its rows after so many halvings; after one by the single call too.
+fn halved(pixels: &[u8], width: usize, count: usize) -> (Size, Vec<u8>) {
+    let src = Gray8View::new(pixels, width, pixels.len() / width, width).unwrap();
+    let size = halved_size(src.size(), count).unwrap();
+    let into = |run: &dyn Fn(Gray8ViewMut<'_>) -> ImgProcResult<()>| {
+        let mut out = vec![0; size.width * size.height];
+        run(Gray8ViewMut::new(&mut out, size.width, size.height, size.width).unwrap()).unwrap();
+        out
+    };
+    let out = into(&|dst| halve(src, dst, count, &mut ResizeWorkspace::default()));
+    assert!(count != 1 || into(&|dst| box_downscale_half(src, dst)) == out);
+    (size, out)
+}
+
+/// Document 02, K8. The means of two by two are 7 / 4, 2 / 4, 3 / 4 and 6 / 4, of which the halves go up.
+#[test]
+fn each_halving_rounds() {
+    let pixels = [1, 2, 1, 1, 2, 2, 0, 0, 2, 1, 2, 2, 0, 0, 1, 1];
+    assert_eq!(halved(&pixels, 4, 0).1, pixels);
+    assert_eq!(halved(&pixels, 4, 1).1, [2, 1, 1, 2]);
+    assert_eq!(halved(&pixels, 4, 2).1, [2]);
+    // every sum of four, and each of its remainders
+    for sum in 0..=4 * 255u16 {
+        let four = [0, 1, 2, 3].map(|place| ((sum + place) / 4) as u8);
+        assert_eq!(halved(&four, 2, 1).1, [(f64::from(sum) / 4.0 + 0.5).floor() as u8], "{four:?}");
+    }
+}
+
+#[test]
+fn an_odd_last_column_and_row_are_left_out() {
+    let pixels = [0, 1, 255, 255, 9, 1, 1, 255, 254, 9, 10, 20, 30, 40, 9, 50, 60, 70, 80, 9, 9, 9, 9, 9, 9];
+    assert_eq!(halved(&pixels, 5, 1), (Size { width: 2, height: 2 }, vec![1, 255, 35, 55]));
+    assert_eq!(halved(&pixels, 5, 2), (Size { width: 1, height: 1 }, vec![87]));
+    assert_eq!(halved(&[1, 2, 9, 3, 4, 9, 9, 9, 9], 3, 1), (Size { width: 1, height: 1 }, vec![3]));
+    assert_eq!(halved(&[1, 2, 9, 3, 4, 9], 3, 1).1, [3]);
+    assert_eq!(halved(&[1, 2, 3, 4, 9, 9], 2, 1).1, [3]);
+}
+
+#[test]
+fn some_halvings_and_then_some() {
+    let pixels: Vec<u8> = (0..70 * 67).map(|place| (place * place % 251) as u8).collect();
+    for first in 0..=6 {
+        let (size, part) = halved(&pixels, 70, first);
+        for second in 0..=6 - first {
+            assert_eq!(halved(&part, size.width, second), halved(&pixels, 70, first + second), "{first} and {second}");
+        }
+    }
+}
+
+#[test]
+fn ten_halvings() {
+    let pixels: Vec<u8> = (0..1024 * 1024).map(|place| if place % 1024 < 512 { 10 } else { 21 }).collect();
+    // nothing is rounded until the last halving, which has 62 / 4
+    assert_eq!(halved(&pixels, 1024, 9).1, [10, 21, 10, 21]);
+    assert_eq!(halved(&pixels, 1024, MAX_HALVINGS), (Size { width: 1, height: 1 }, vec![16]));
+}
+
+#[test]
+fn sizes_that_are_left() {
+    let left = |width, height, count| halved_size(Size { width, height }, count).map(|s| (s.width, s.height));
+    assert_eq!([0, 1, 2, 3].map(|count| left(5, 7, count)), [Some((5, 7)), Some((2, 3)), Some((1, 1)), None]);
+    assert_eq!([left(1, 9, 0), left(1, 9, 1), left(9, 1, 1)], [Some((1, 9)), None, None]);
+    assert_eq!([left(1024, 1024, 10), left(1023, 1024, 10), left(1024, 1023, 10)], [Some((1, 1)), None, None]);
+    assert_eq!([left(1024, 1024, 11), left(1024, 1024, 64), left(1024, 1024, usize::MAX)], [None; 3]);
+}
+
+#[test]
+fn bytes_around_a_halved_picture_stay_and_do_not_matter() {
+    for p in [0, 77, 255] {
+        // 4 by 4 with 3 bytes of padding: each pixel is the number of its place
+        let bytes: Vec<u8> = (0..25).map(|place| if place % 7 < 4 { place } else { p }).collect();
+        let src = Gray8View::new(&bytes, 4, 4, 7).unwrap();
+        let run = |count, side, out: &mut [u8]| {
+            let dst = Gray8ViewMut::new(out, side, side, side + 1).unwrap();
+            halve(src, dst, count, &mut ResizeWorkspace::default()).unwrap();
+        };
+        let (mut copy, mut half, mut quarter) = ([p; 21], [p; 7], [p; 3]);
+        run(0, 4, &mut copy);
+        assert_eq!(copy, [0, 1, 2, 3, p, 7, 8, 9, 10, p, 14, 15, 16, 17, p, 21, 22, 23, 24, p, p]);
+        run(1, 2, &mut half);
+        assert_eq!(half, [4, 6, p, 18, 20, p, p]);
+        run(2, 1, &mut quarter);
+        assert_eq!(quarter, [12, p, p]);
+        let mut once = [p; 7];
+        box_downscale_half(src, Gray8ViewMut::new(&mut once, 2, 2, 3).unwrap()).unwrap();
+        assert_eq!(once, half);
     }
 }
 

@@ -1,9 +1,10 @@
 //! How much the crate allocates for a picture: a line filter three i32 for each pixel of the longest side (document 02,
-//! K5), the whole job a record for each pixel besides, and neither anything for one that is no larger. A workspace that
-//! grows has no more than the larger picture needs.
+//! K5), the whole job a record for each pixel besides, halvings a byte for each pixel (K8), a single one nothing; and
+//! none of them anything for one that is no larger. A workspace that grows has no more than the larger picture needs.
 
 use smear::deblur::{directional_unsharp_line_into, van_cittert_estimate_into, van_cittert_line_into, DeblurWorkspace};
 use smear::job::{restore, JobWorkspace};
+use smear::resize::{box_downscale_half, halve, halved_size, ResizeWorkspace};
 use smear::{Gray8View, Gray8ViewMut, ImgProcError};
 use std::alloc::{GlobalAlloc, Layout, System};
 use std::cell::Cell;
@@ -110,4 +111,26 @@ fn a_workspace_grows_to_what_the_larger_picture_needs() {
         let grows = usize::from(side > smaller);
         assert_eq!((restored, whole), (grows * 12 * side, grows * (12 * side + RECORD * side * side)));
     }
+}
+
+#[test]
+fn halvings_keep_a_byte_for_each_pixel() {
+    let mut kept = ResizeWorkspace::default();
+    with_pictures(|width, height, pixels| {
+        let src = Gray8View::new(pixels, width, height, width).unwrap();
+        let mut out = vec![0; pixels.len()];
+        for count in (0..=10).filter(|&count| halved_size(src.size(), count).is_some()) {
+            let left = halved_size(src.size(), count).unwrap();
+            let mut halved = |workspace: &mut ResizeWorkspace| {
+                let dst = Gray8ViewMut::new(&mut out, left.width, left.height, left.width).unwrap();
+                allocated(|| halve(src, dst, count, workspace).unwrap())
+            };
+            assert_eq!(halved(&mut ResizeWorkspace::default()), width * height);
+            // the first picture is the largest
+            assert_eq!(halved(&mut kept), if ((width, height), count) == (SIZES[0], 0) { width * height } else { 0 });
+        }
+        let Some(half) = halved_size(src.size(), 1) else { return };
+        let dst = Gray8ViewMut::new(&mut out, half.width, half.height, half.width).unwrap();
+        assert_eq!(allocated(|| box_downscale_half(src, dst).unwrap()), 0);
+    });
 }

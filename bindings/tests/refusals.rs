@@ -11,9 +11,10 @@ use smear::deblur::{
 };
 use smear::job::{restore, JobConfig, JobWorkspace};
 use smear::pgm;
+use smear::resize::{box_downscale_half, halve, halved_size, ResizeWorkspace};
 use smear::sharpen::{fixed_binomial_unsharp_into, SharpenWorkspace};
 use smear::summary::summarize;
-use smear::{FaultyRecord, Gray8View, Gray8ViewMut, ImgProcError, ImgProcResult, LumaError, PgmError};
+use smear::{FaultyRecord, Gray8View, Gray8ViewMut, ImgProcError, ImgProcResult, LumaError, PgmError, Size};
 
 const BYTES: [u8; 5] = [10, 10, 40, 10, 10];
 
@@ -366,6 +367,126 @@ fn room_and_floor_in_c() {
     }
 }
 
+/// Document 02, K8: a picture of that size halved so often, into a destination of that other size, and for one halving
+/// by the single call too; a refusal must leave the destination.
+fn halving(src: (usize, usize), count: usize, dst: (usize, usize)) -> Result<(), ImgProcError> {
+    let bytes = vec![9; src.0 * src.1];
+    let src = Gray8View::new(&bytes, src.0, src.1, src.0).unwrap();
+    let into = |run: &dyn Fn(Gray8ViewMut<'_>) -> ImgProcResult<()>| {
+        let mut out = vec![77; dst.0 * dst.1];
+        let answer = run(Gray8ViewMut::new(&mut out, dst.0, dst.1, dst.0).unwrap());
+        assert_eq!(out, vec![if answer.is_ok() { 9 } else { 77 }; dst.0 * dst.1]);
+        answer
+    };
+    let answer = into(&|dst| halve(src, dst, count, &mut ResizeWorkspace::default()));
+    assert!(count != 1 || into(&|dst| box_downscale_half(src, dst)) == answer);
+    answer
+}
+
+#[test]
+fn counts_of_halvings() {
+    let cannot = Err(ImgProcError::CannotHalve);
+    for (src, most, last) in [
+        ((1, 1), 0, (1, 1)),
+        ((1, 9), 0, (1, 9)),
+        ((9, 1), 0, (9, 1)),
+        ((2, 9), 1, (1, 4)),
+        ((3, 3), 1, (1, 1)),
+        ((7, 4), 2, (1, 1)),
+        ((1024, 8), 3, (128, 1)),
+        ((1023, 1024), 9, (1, 2)),
+        ((1024, 1023), 9, (2, 1)),
+        ((1024, 1024), 10, (1, 1)),
+    ] {
+        assert_eq!(halving(src, most, last), Ok(()), "{src:?}");
+        // whatever the destination
+        for count in [most + 1, 11, 12, 32, 64, 1 << 32, usize::MAX] {
+            assert_eq!(halving(src, count, last), cannot, "{src:?}, {count} times");
+            assert_eq!(halving(src, count, (3, 5)), cannot, "{src:?}, {count} times");
+        }
+    }
+    assert_eq!(ImgProcError::CannotHalve.to_string(), "more than 10 halvings, or one that starts from a side below 2");
+}
+
+/// Each side is halved and floored so often: any other destination is refused.
+#[test]
+fn destinations_of_halvings() {
+    for (width, height) in [(1, 1), (2, 3), (5, 4), (7, 9), (8, 8)] {
+        for count in 0..=3 {
+            let Some(left) = halved_size(Size { width, height }, count) else { continue };
+            for dst in (1..=9).flat_map(|width| (1..=9).map(move |height| Size { width, height })) {
+                let answer = if dst == left { Ok(()) } else { Err(ImgProcError::DimensionMismatch) };
+                assert_eq!(halving((width, height), count, (dst.width, dst.height)), answer, "{dst:?} for {left:?}");
+            }
+        }
+    }
+}
+
+/// What the C calls return for layouts of width, height, stride and bytes, with so many bytes of scratch. A refusal has
+/// changed nothing.
+fn halved_in_c(src: [usize; 4], dst: [usize; 4], count: usize, scratch_len: usize) -> u8 {
+    let (bytes, mut out, mut scratch) = (vec![9; src[3]], vec![77; dst[3]], vec![78; scratch_len]);
+    let refusal = unsafe {
+        raw::smear_halve(
+            bytes.as_ptr(), src[3], src[0], src[1], src[2], out.as_mut_ptr(), dst[3], dst[0], dst[1], dst[2],
+            count, scratch.as_mut_ptr(), scratch_len,
+        )
+    };
+    assert!(refusal == 0 || out == vec![77; dst[3]] && scratch == vec![78; scratch_len]);
+    refusal
+}
+
+/// The same of the single call.
+fn half_in_c(src: [usize; 4], dst: [usize; 4]) -> u8 {
+    let (bytes, mut out) = (vec![9; src[3]], vec![77; dst[3]]);
+    let refusal = unsafe {
+        raw::smear_box_downscale_half(
+            bytes.as_ptr(), src[3], src[0], src[1], src[2], out.as_mut_ptr(), dst[3], dst[0], dst[1], dst[2],
+        )
+    };
+    assert!(refusal == 0 || out == vec![77; dst[3]]);
+    refusal
+}
+
+/// Each fault with all later ones beside it: the order is 1 to 4, 18, 5, 6, 10.
+#[test]
+fn order_of_refusals_of_a_halving_in_c() {
+    let refused =
+        [[0, 1, 1, 9], [1, 0, 1, 9], [1025, 1, 1025, 1025], [2, 2, 1, 9], [2, 2, 2, 3], [1, 2, usize::MAX, 2]];
+    for count in [0, 1, 2, 11, usize::MAX] {
+        for dst in refused {
+            for (src, number) in [
+                ([0, 1025, 0, 0], 1),
+                ([4, 0, 4, 16], 1),
+                ([1025, 4, 3, 0], 2),
+                ([4, 1025, 3, 0], 2),
+                ([4, 3, 3, 0], 3),
+                ([4, 3, 4, 11], 4),
+                ([4, 3, usize::MAX, 99], 4),
+            ] {
+                assert_eq!((halved_in_c(src, dst, count, 0), half_in_c(src, dst)), (number, number));
+            }
+            // a height of 3 can be halved once
+            let answer = if count > 1 { 18 } else { 5 };
+            assert_eq!((halved_in_c([4, 3, 4, 12], dst, count, 0), half_in_c([4, 3, 4, 12], dst)), (answer, 5));
+            assert_eq!((half_in_c([1, 4, 1, 4], dst), half_in_c([4, 1, 4, 4], dst)), (18, 18));
+        }
+        // only a count of 0 has the source's own size, and only one of 1 the half of it
+        for (dst, fitting) in [([4, 3, 4, 12], 0), ([2, 1, 2, 2], 1)] {
+            for scratch in [0, 11, 12, 13] {
+                let answer = match count {
+                    2.. => 18,
+                    _ if count != fitting => 6,
+                    _ if scratch < 12 => 10,
+                    _ => 0,
+                };
+                assert_eq!(halved_in_c([4, 3, 4, 12], dst, count, scratch), answer, "{count} times into {dst:?}");
+            }
+        }
+    }
+    assert_eq!((half_in_c([4, 3, 4, 12], [4, 3, 4, 12]), half_in_c([4, 3, 4, 12], [2, 1, 2, 2])), (6, 0));
+}
+
 /// A restoration of a 5 by 1 picture: length 3, one iteration, relaxation 1.
 const RECORD: [u8; 32] =
     [5, 0, 1, 0, 0, 0, 0, 1, 3, 0, 1, 0, 0, 0, 1, 0, 0, 0, 0, 0, 0, 0, 0, 0, 0, 0, 0, 0, 0, 0, 0, 0];
@@ -623,6 +744,11 @@ fn nothing_in_c() {
         let nowhere = std::ptr::null_mut();
         assert_eq!(raw::smear_write_pgm(std::ptr::null(), 0, 1, 1, 1, nowhere, 0, &mut written), 4);
         assert_eq!(raw::smear_write_pgm(BYTES.as_ptr(), 5, 5, 1, 5, nowhere, 0, &mut written), 5);
+        assert_eq!(raw::smear_halve(std::ptr::null(), 0, 1, 1, 1, nowhere, 0, 1, 1, 1, 0, nowhere, 0), 4);
+        assert_eq!(raw::smear_halve(BYTES.as_ptr(), 5, 5, 1, 5, nowhere, 0, 5, 1, 5, 0, nowhere, 0), 5);
+        let mut copy = [77; 5];
+        assert_eq!(raw::smear_halve(BYTES.as_ptr(), 5, 5, 1, 5, copy.as_mut_ptr(), 5, 5, 1, 5, 0, nowhere, 0), 10);
+        assert_eq!(raw::smear_box_downscale_half(BYTES.as_ptr(), 5, 2, 2, 3, nowhere, 0, 1, 1, 1), 5);
     }
     assert_eq!([width, height, start, written], [77; 4]);
 }

@@ -4,19 +4,20 @@
 
 use crate::degrees::{BEYOND, LAST};
 use crate::ffi::{
-    smear_direction_from_angle, smear_estimate_line_direction, smear_estimate_line_length, smear_read_pgm,
-    smear_restore, smear_run, smear_summarize, smear_van_cittert_estimate, smear_van_cittert_line, smear_write_pgm,
-    Swing,
+    smear_box_downscale_half, smear_direction_from_angle, smear_estimate_line_direction, smear_estimate_line_length,
+    smear_halve, smear_read_pgm, smear_restore, smear_run, smear_summarize, smear_van_cittert_estimate,
+    smear_van_cittert_line, smear_write_pgm, Swing,
 };
 use qr_lab_image::{Gray8View, Gray8ViewMut, LumaError};
 use qr_lab_imgproc::blur::{
     estimate_line_direction, estimate_line_length_with, DirectionEstimate, LineLengthConfig, RasterDirection4,
 };
 use qr_lab_imgproc::deblur::{van_cittert_line_into, LineBorderMode, VanCittertConfig};
+use qr_lab_imgproc::internal::box_downscale_half;
 use qr_lab_imgproc::ImgProcError;
 use std::panic::{catch_unwind, set_hook, take_hook, AssertUnwindSafe};
 
-const ROWS: [(&str, fn()); 16] = [
+const ROWS: [(&str, fn()); 19] = [
     ("a picture of more than 1,024 pixels a side", sides),
     ("a layout that is refused", layout),
     ("more than 22 iterations", iterations),
@@ -33,6 +34,9 @@ const ROWS: [(&str, fn()); 16] = [
     ("direction from an angle", snapped),
     ("length along an angle without a direction", measured),
     ("line filters along a finite angle without a direction", filtered),
+    ("halving a picture with a side of 1", too_small),
+    ("a half-size picture", half_size),
+    ("as many halvings as stated", halvings),
 ];
 
 /// Ends with a panic where a row is not as docs/DIFFERENCES.md has it.
@@ -109,9 +113,38 @@ fn our_wrapped_row(row: &[u8]) -> Vec<u8> {
     out
 }
 
+/// The Rust's half-size picture.
+fn their_half(pixels: &[u8], width: usize) -> Option<(Vec<u8>, usize, usize)> {
+    box_downscale_half(&Gray8View::new(pixels, width, pixels.len() / width, width).unwrap())
+}
+
+/// Our refusal, and what then stands in a destination of so many bytes, with such a width and one row.
+fn our_half(pixels: &[u8], width: usize, len: usize, dst_width: usize) -> (u8, Vec<u8>) {
+    let (height, mut out) = (pixels.len() / width, vec![77; len]);
+    let refusal = unsafe {
+        smear_box_downscale_half(
+            pixels.as_ptr(), pixels.len(), width, height, width, out.as_mut_ptr(), len, dst_width, 1, dst_width,
+        )
+    };
+    (refusal, out)
+}
+
+/// A 1 by 1 picture of a 7 halved so often, with so much scratch: the refusal, and what stands in the destination.
+fn one_halved(count: usize, scratch: usize) -> (u8, [u8; 1]) {
+    let (mut out, mut room) = ([77], vec![0; scratch]);
+    let refusal = unsafe {
+        smear_halve([7].as_ptr(), 1, 1, 1, 1, out.as_mut_ptr(), 1, 1, 1, 1, count, room.as_mut_ptr(), scratch)
+    };
+    (refusal, out)
+}
+
 fn sides() {
     assert_eq!(their_direction(&[0; 1025], 1025).raster_direction, RasterDirection4::Horizontal);
     assert_eq!(our_direction(&[0; 1025], 1025, 1).0, 2);
+    assert_eq!(their_half(&[7; 2050], 1025), Some((vec![7; 512], 512, 1)));
+    assert_eq!(our_half(&[7; 2050], 1025, 512, 512), (2, vec![77; 512]));
+    // with one row the Rust has none
+    assert_eq!(their_half(&[7; 1025], 1025), None);
 }
 
 fn layout() {
@@ -274,4 +307,20 @@ fn measured() {
 fn filtered() {
     let config = VanCittertConfig { theta_radians: BEYOND, ..Default::default() };
     assert_eq!((their_row(&[7], config), our_restoration(config, 1, 3)), (Ok(vec![7]), 7));
+}
+
+fn too_small() {
+    assert_eq!((their_half(&[7], 1), our_half(&[7], 1, 1, 1)), (None, (18, vec![77])));
+}
+
+fn half_size() {
+    let four = [1, 1, 1, 3];
+    assert_eq!(their_half(&four, 2), Some((vec![2], 1, 1)));
+    assert_eq!(our_half(&four, 2, 1, 1), (0, vec![2]));
+    assert_eq!(our_half(&four, 2, 2, 2), (6, vec![77; 2]));
+    assert_eq!(our_half(&four, 2, 0, 1), (5, vec![]));
+}
+
+fn halvings() {
+    assert_eq!((one_halved(0, 1), one_halved(0, 0), one_halved(11, 1)), ((0, [7]), (10, [77]), (18, [77])));
 }

@@ -1,7 +1,8 @@
 //! Compares the proved library with the Rust original: the same inputs, from a seeded generator, through the C
 //! interface. What the original has not is compared with a plain restatement: the sheet (`sheet`), PGM files (`pgm`),
 //! the floor of the whole job (`confidence`), and the line filters with Wrap (`line`), which are counted by themselves.
-//! So are angles that have no direction (`degrees`), with which the original is not run.
+//! So are angles that have no direction (`degrees`), with which the original is not run. Of halvings it has one, which
+//! runs again on its own answer for more (`halve`).
 //! Ends with status 1 at the first difference, which it prints as small as it can make it; intended ones are shown
 //! first (`differences`).
 
@@ -15,6 +16,7 @@ mod differences;
 mod direction;
 #[path = "../../bindings/src/raw.rs"]
 mod ffi;
+mod halve;
 mod job;
 mod length;
 mod lent;
@@ -46,7 +48,7 @@ const USAGE: &str = "usage: oracle [--seed N] [--count N] [--only CALL]
 
 type Compare = fn(&mut Random, usize, &mut Tally);
 
-const CALLS: [(&str, Compare); 30] = [
+const CALLS: [(&str, Compare); 34] = [
     ("from_angle", angle::compare),
     ("estimate_line_direction", direction::compare),
     ("estimate_line_length", length::compare),
@@ -77,6 +79,10 @@ const CALLS: [(&str, Compare); 30] = [
     ("read_pgm: limits", read_pgm::limits),
     ("write_pgm: pictures", write_pgm::pictures),
     ("write_pgm: sides", write_pgm::sides),
+    ("halve: shapes", halve::shapes),
+    ("halve: pictures", halve::pictures),
+    ("halve: sides", halve::sides),
+    ("halve: sums", halve::sums),
 ];
 
 fn usage() -> ! {

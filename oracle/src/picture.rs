@@ -53,6 +53,15 @@ impl Picture {
         (0..self.height).flat_map(|y| self.data[y * self.stride..][..self.width].iter().copied()).collect()
     }
 
+    /// The bytes of an accepted picture with these pixels, row by row, and all else as it is.
+    pub fn painted(&self, pixels: &[u8]) -> Vec<u8> {
+        let mut bytes = self.data.clone();
+        for (y, row) in pixels.chunks_exact(self.width).enumerate() {
+            bytes[y * self.stride..][..self.width].copy_from_slice(row);
+        }
+        bytes
+    }
+
     /// A picture of the given size and any content.
     pub fn random(random: &mut Random, width: usize, height: usize) -> Self {
         let stride = width + if random.below(2) == 0 { 0 } else { random.below(8) as usize };

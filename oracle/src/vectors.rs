@@ -6,6 +6,7 @@ mod chosen;
 use crate::angle::number;
 use crate::degrees::Angle;
 use crate::direction;
+use crate::halve;
 use crate::picture::Picture;
 use qr_lab_image::{Gray8View, Gray8ViewMut, LumaError};
 use qr_lab_imgproc::blur::{self, LineLengthConfig};
@@ -24,6 +25,8 @@ enum Call {
     Restoration,
     Unsharp,
     Binomial,
+    Half,
+    Halve,
 }
 
 #[derive(Clone)]
@@ -33,7 +36,7 @@ struct Case {
     destination: Picture,
     angle: f64,
     length: usize,
-    /// Iterations, or the least number of swings.
+    /// Iterations, the least number of swings, or halvings.
     count: usize,
     factor: f64,
     border: LineBorderMode,
@@ -106,6 +109,12 @@ impl Case {
             let config = LineLengthConfig { minimum_transitions: self.count, minimum_amplitude: self.amplitude };
             let estimate = blur::estimate_line_length_with(view, self.angle().radians(), &config);
             return Ok((estimate.is_some() as u8, estimate.unwrap_or(0.0)));
+        }
+        if matches!(self.call, Call::Half | Call::Halve) {
+            // it has no destination of its own, and None where a side is below 2
+            let halved = halve::theirs(s, self.count).ok_or(18)?;
+            bytes.copy_from_slice(&d.painted(&halved.pixels()));
+            return Ok((0, 0.0));
         }
         let target = Gray8ViewMut::new(bytes, d.width, d.height, d.stride).map_err(|_| 5)?;
         let (theta_radians, blur_length, border) = (self.angle().radians(), self.length, self.border);

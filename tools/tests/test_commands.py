@@ -230,6 +230,52 @@ class Commands(unittest.TestCase):
         made = ["record", "make", "--width", "5", "--height", "1"]
         self.assertIn("unrecognized arguments", self.run_tool(*made, "--confidence", "8", status=2))
 
+    def test_halve(self):
+        # document 02, K8: of 11 by 5 pixels 5 by 2 are left, 10 10 40 10 10 and 8 8 9 9 9, whose means over 3 along the
+        # rows are 10 20 20 20 10 and 8 8 8 9 9
+        rows = [2 * [10, 10, 10, 10, 40, 40, 10, 10, 10, 10, 99], 2 * [7, 8, 7, 8, 9, 9, 9, 9, 9, 9, 99], 11 * [99]]
+        self.file("rows.pgm", b"P5 11 5 255\n" + bytes(sum(rows, [])))
+        said = self.run_tool("restore", "rows.pgm", "out.pgm", "--halve", "1", "--length", "3", "--iterations", "1")
+        self.assertEqual(self.file("out.pgm"), b"P5\n5\n2\n255\n" + bytes([10, 0, 60, 0, 10, 8, 8, 10, 9, 9]))
+        self.assertIn("picture    5 by 2 pixels\n", said)
+        # a part is cut out before it is halved: 10 40 is left, with means 20 30, and 31 36, with means 32 34
+        for crop, count, row in [("2 0 4 2", "1", [0, 50]), ("0 1 11 4", "2", [30, 38])]:
+            options = ["--crop", *crop.split(), "--halve", count, "--length", "3", "--iterations", "1"]
+            self.run_tool("restore", "rows.pgm", "out.pgm", *options)
+            self.assertEqual(self.file("out.pgm"), b"P5\n2\n1\n255\n" + bytes(row))
+        options = ["--halve", "0", "--length", "3"]
+        self.assertIn("picture    11 by 5 pixels\n", self.run_tool("restore", "rows.pgm", "out.pgm", *options))
+
+    def test_halved_before_it_is_measured(self):
+        # the sample with each pixel four times: halved it is the sample again, and only so is it small enough
+        label = os.path.join(TOOLS, "..", "samples", "label.pgm")
+        with open(label, "rb") as file:
+            pixels = file.read()[len("P5 64 64 255 ") :]
+        rows = [bytes(pixel for pixel in pixels[start : start + 64] for _ in range(2)) for start in range(0, 4096, 64)]
+        large = b"".join(2 * row for row in rows)
+        self.file("large.pgm", b"P5 128 128 255\n" + large)
+        reason = "128 by 128 are 16384 pixels; the program takes at most 4096"
+        reason += ": cut a part out with --crop X Y W H, or halve it with --halve N"
+        self.assertEqual(self.run_tool("restore", "large.pgm", "out.pgm", status=1), f"restore: {reason}\n")
+        for options in [[], ["--confidence", "172"]]:
+            said = self.run_tool("restore", label, "label.pgm", *options)
+            self.assertEqual(self.run_tool("restore", "large.pgm", "half.pgm", "--halve", "1", *options), said)
+            self.assertEqual(self.file("half.pgm"), self.file("label.pgm"))
+
+    def test_what_cannot_be_halved(self):
+        self.file("three.pgm", b"P5 3 3 255\n" + bytes(9))
+        self.file("wide.pgm", b"P2 1025 2 255\n" + 2050 * b"0 ")
+        below = "none starts from a side below 2"
+        for name, count, reason in [
+            ("three.pgm", "2", f"refused 18: 3 by 3 pixels can be halved 1 time, not 2: {below}"),
+            ("three.pgm", "11", "refused 18: 11 halvings, and a picture is halved at most 10 times"),
+            ("three.pgm", "-1", "a picture is halved 0 to 10 times, not -1"),
+            ("wide.pgm", "1", "refused 2: 1025 by 2 pixels, and a picture that is halved has at most 1,024 a side"),
+        ]:
+            said = self.run_tool("restore", name, "out.pgm", "--halve", count, status=1)
+            self.assertEqual(said, f"restore: {reason}\n")
+        self.assertFalse(os.path.exists(os.path.join(self.folder, "out.pgm")))
+
     def test_sample_label(self):
         said = self.run_tool(os.path.join("..", "samples", "make"), "--check")
         # as the README says

@@ -1,5 +1,6 @@
 // Call sites as a caller of qr-lab has them. This file is included twice. The lines before it differ: the `use` lines,
-// and what is made of a direction or a length that an angle might not have (`direction_of`, `length_of`).
+// what is made of a direction or a length that an angle might not have (`direction_of`, `length_of`), and where a
+// half-size picture goes (`half_of`).
 // Answers are texts, so that those of two crates can be compared.
 
 use crate::settings::Settings;
@@ -93,6 +94,11 @@ pub fn unsharpened(p: &Picture, dst: &Picture, s: &Settings, workspace: &mut deb
 
 pub fn sharpened(p: &Picture, dst: &Picture, workspace: &mut sharpen::SharpenWorkspace) -> String {
     written(dst, |out| Ok(format!("{:?}", sharpen::fixed_binomial_unsharp_into(view(p), out, workspace)?)))
+}
+
+/// The half-size picture with its sides, or none of a picture that is too small.
+pub fn halved(p: &Picture) -> String {
+    format!("{:?}", half_of(view(p)))
 }
 
 /// The settings that stand on the types.

@@ -14,7 +14,7 @@ mod settings;
 
 mod theirs {
     use qr_lab_image::{Gray8View, Gray8ViewMut};
-    use qr_lab_imgproc::{blur, deblur, sharpen, ImgProcResult};
+    use qr_lab_imgproc::{blur, deblur, internal, sharpen, ImgProcResult};
 
     fn direction_of(answer: blur::RasterDirection4) -> blur::RasterDirection4 {
         answer
@@ -24,11 +24,15 @@ mod theirs {
         answer
     }
 
+    fn half_of(src: Gray8View<'_>) -> Option<(Vec<u8>, usize, usize)> {
+        internal::box_downscale_half(&src)
+    }
+
     include!("calls.rs");
 }
 
 mod ours {
-    use smear::{blur, deblur, sharpen, ImgProcResult};
+    use smear::{blur, deblur, resize, sharpen, ImgProcResult};
     use smear::{Gray8View, Gray8ViewMut};
 
     fn direction_of(answer: Option<blur::RasterDirection4>) -> blur::RasterDirection4 {
@@ -37,6 +41,14 @@ mod ours {
 
     fn length_of(answer: ImgProcResult<Option<f64>>) -> Option<f64> {
         answer.expect("an angle that has a direction")
+    }
+
+    fn half_of(src: Gray8View<'_>) -> Option<(Vec<u8>, usize, usize)> {
+        let half = resize::halved_size(src.size(), 1)?;
+        let mut out = vec![0; half.width * half.height];
+        let dst = Gray8ViewMut::new(&mut out, half.width, half.height, half.width).unwrap();
+        resize::box_downscale_half(src, dst).expect("a destination of half the size");
+        Some((out, half.width, half.height))
     }
 
     include!("calls.rs");
@@ -90,6 +102,7 @@ fn main() {
         let (theirs, ours) =
             (theirs::sharpened(&src, &dst, &mut their_room), ours::sharpened(&src, &dst, &mut our_room));
         same("fixed_binomial_unsharp_into", number, theirs, ours);
+        same("box_downscale_half", number, theirs::halved(&src), ours::halved(&src));
         if Angle::of(settings.angle).is_none() {
             without_direction += 1;
             continue;

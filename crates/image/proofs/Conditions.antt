@@ -18,10 +18,11 @@ use Rattle.image.specs.Conditions.{
   FirstMatch,
   Exactly,
   layoutConditions,
+  sizedConditions,
   pairConditions,
 }
 use Rattle.image.specs.Refusal.{maxSide, firstRefusal, sidesRefusal, rowsRefusal, layoutRefusal}
-use Rattle.image.specs.Refusal.{destinationRefusal, sizesRefusal, pairRefusal, Laid, LaidPair}
+use Rattle.image.specs.Refusal.{destinationRefusal, sizesRefusal, sizedRefusal, pairRefusal, Laid, LaidPair}
 use Rattle.image.specs.Call.{Decision, unless, decided, numberOf}
 use Rattle.image.proofs.Call.{number-decided, number-unless}
 use Rattle.image.proofs.Chain.{first-own}
@@ -123,19 +124,26 @@ module _ (len width height stride : ℕ) where
   pub layout-iff : (layoutRefusal len width height stride ≡ 0) ↔ Laid len width height stride
   layout-iff = (laid, accepted)
 
+pub sized-matches : (dstLen dstWidth dstHeight dstStride w h : ℕ)
+    → FirstMatch (sizedConditions dstLen dstWidth dstHeight dstStride w h)
+    (sizedRefusal dstLen dstWidth dstHeight dstStride w h)
+unfolding sizedRefusal destinationRefusal sizesRefusal
+sized-matches dstLen dstWidth dstHeight dstStride w h =
+    match-then
+    (match-unless 5 match-none
+    (false-iff _
+    (Iff·trans (eqb-iff (layoutRefusal dstLen dstWidth dstHeight dstStride) 0)
+    (layout-iff dstLen dstWidth dstHeight dstStride))))
+    (tt, tt)
+    (match-unless 6 match-none (and-false-iff _ _ (eqb-iff dstWidth w) (eqb-iff dstHeight h)))
+
 module _ (len width height stride dstLen dstWidth dstHeight dstStride : ℕ) where
   pub pair-matches : FirstMatch (pairConditions len width height stride dstLen dstWidth dstHeight dstStride)
       (pairRefusal len width height stride dstLen dstWidth dstHeight dstStride)
-  unfolding pairRefusal destinationRefusal sizesRefusal
+  unfolding pairRefusal
   pair-matches =
       match-then (layout-matches len width height stride) (layout-numbered len width height stride)
-      (match-then
-      (match-unless 5 match-none
-      (false-iff _
-      (Iff·trans (eqb-iff (layoutRefusal dstLen dstWidth dstHeight dstStride) 0)
-      (layout-iff dstLen dstWidth dstHeight dstStride))))
-      (tt, tt)
-      (match-unless 6 match-none (and-false-iff _ _ (eqb-iff dstWidth width) (eqb-iff dstHeight height))))
+      (sized-matches dstLen dstWidth dstHeight dstStride width height)
 
   pub pair-numbered : Numbered (pairConditions len width height stride dstLen dstWidth dstHeight dstStride)
   pair-numbered = (tt, (tt, (tt, (tt, (tt, (tt, tt))))))

@@ -1,7 +1,7 @@
 -- When a layout is given which number, and what it is to be accepted.
 use Prim.Native.Nat.{ℕ, _+_, _*_, _-_, _/_, _≤_, _<_, _^_}
 use native.Mathlib.Nat.{mul-le-mul, mul-le-mul-left, mul-comm, pos-of-ne-zero, ne-of-gt, div-lt-iff-lt-mul}
-use native.Mathlib.Nat.{le-div-iff-mul-le}
+use native.Mathlib.Nat.{le-div-iff-mul-le, le-refl, mul-add, mul-one}
 use native.Mathlib.Omega.{arith}
 use mathlib.Core.Bool.{false, _||_, or-true}
 use mathlib.Core.Logic.{_⊎_, inl, inr}
@@ -120,3 +120,25 @@ module _ {len width height stride : ℕ} where
 
   pub area-most : Laid len width height stride → width * height ≤ 2 ^ 20
   area-most l = mul-le-mul (l .width-most) (l .height-most)
+
+-- ---- rows without gaps
+
+last-row : (width height : ℕ) → 0 < height → width * (height - 1) + width ≡ width * height
+last-row width height p =
+    let one : height - 1 + 1 ≡ height = omega arith in
+    omega (arith, rw one at (mul-add width (height - 1) 1), mul-one width)
+
+pub tight-laid : (len width height : ℕ) → 0 < width → width ≤ maxSide → 0 < height → height ≤ maxSide
+    → width * height ≤ len → Laid len width height width
+tight-laid len width height pw mw ph mh fits =
+    record {
+      width-pos = pw;
+      width-most = mw;
+      height-pos = ph;
+      height-most = mh;
+      stride-least = le-refl width;
+      len-least = rw (last-row width height ph) fits;
+    }
+
+pub tight-area : {len width height : ℕ} → Laid len width height width → width * height ≤ len
+tight-area {width = width} {height} l = rw (last-row width height (l .height-pos)) at (l .len-least)

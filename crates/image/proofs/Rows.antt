@@ -1,15 +1,18 @@
 -- A picture a row at a time: one more row is painted (`painted-row`), a row as a part of the bytes (`row-part-length`,
--- `row-part-at`), rows without gaps (`row-end-within`). n and m are a row's width as the code counts it, end − start.
+-- `row-part-at`), rows without gaps (`row-end-within`), a copied row (`copied-written`). n and m are a row's width as
+-- the code counts it, end − start.
 use Prim.Native.Nat.{ℕ, _+_, _*_, _/_, _%_, _≤_, _<_}
-use mathlib.Core.List.{List, _++_}
-use mathlib.Core.Path.{_≡_, _∙_}
+use mathlib.Core.List.{List, _++_, append-nil}
+use mathlib.Core.Path.{_≡_, ap, ap₂, _∙_}
 use native.Mathlib.Nat.{le-refl, mul-comm, mul-le-mul-right}
 use native.Mathlib.Omega.{arith}
 use lib.ListN.{length, getD, take, drop}
+use lib.Seq.{take-length, drop-length}
 use Rattle.numbers.specs.Written.{Written, Painted, front, part}
 use Rattle.numbers.proofs.List.{getD-part, length-part}
 use Rattle.numbers.proofs.Nat.{add-one-mul}
-use Rattle.numbers.proofs.Places.{within-front, pixels-row}
+use Rattle.numbers.proofs.Places.{within-front, pixels-row, front-iff}
+use Rattle.numbers.proofs.Test.{false-not-true}
 use Rattle.numbers.proofs.Written.{written-join, written-part, painted-at}
 use Rattle.image.specs.Picture.{pixel}
 
@@ -43,3 +46,18 @@ module _ (xs : List ℕ) (w s y m : ℕ) (same : m ≡ w) (fits : y * s + w ≤ 
 
   pub row-part-at : (x : ℕ) → x < w → getD rowPart x 0 ≡ pixel xs s x y
   row-part-at x h = getD-part (y * s) m xs x 0 (rw same h)
+
+-- what `bytes::copy` leaves of as many bytes
+pub copied-written : (src dst : List ℕ) {new : List ℕ} → length src ≡ length dst
+    → new ≡ take (length src) src ++ drop (length src) dst
+    → Written 0 (front (length src)) (λ x. getD src x 0) dst new
+copied-written src dst {new} same e =
+    record {
+      same-length = ap length all ∙ same;
+      hits = λ j _ _. ap (λ (xs : List ℕ). getD xs j 0) all;
+      rest = λ j below miss. absurd (false-not-true miss (front-iff (length src) j .1 (omega arith)));
+    }
+  where
+    all : new ≡ src
+    all =
+        e ∙ ap₂ _++_ (take-length src) (ap (λ (n : ℕ). drop n dst) same ∙ drop-length dst) ∙ append-nil src

@@ -1,6 +1,7 @@
 -- Sources that show the same picture: they are refused alike (`layout-same`, `pair-same`), their pixels and rows are
 -- the same (`pixel-of-same`, `row-of-same`), and two calls on them that write pixels end alike, whatever the old
--- destinations and scratch hold (`ends-alike`); calls that write no picture give the same answer (`answers-alike`).
+-- destinations and scratch hold (`ends-alike`, and `ends-alike-at` for a picture of another size); calls that write no
+-- picture give the same answer (`answers-alike`).
 use Prim.Native.Nat.{ℕ, _*_, _<_}
 use mathlib.Core.Bool.{Bool, true, false, cond, _&&_, and-eq-true-iff}
 use mathlib.Core.List.{List, []}
@@ -74,27 +75,34 @@ pub answers-alike : {R A D S : Type 0} {d d′ : Decision R} {answers : Decision
     → Outcome d′ answers writes′ old′ new′ scratch′ scratch₁′ answer′ → answer ≡ answer′
 answers-alike {answers = answers} e o o′ = o .answered ∙ ap answers e ∙ sym (o′ .answered)
 
--- f is what the one call paints and g what the other does; where they accept, the destination is laid at the picture's
--- size
-module _ {R A B S : Type 0} {a b : Gray8} {d d′ : Decision R} {answers : Decision R → A} {z : B}
+-- f is what the one call paints and g what the other does; where they accept, the destination is laid at the size that
+-- is painted
+module _ {R A B S : Type 0} {d d′ : Decision R} {answers : Decision R → A} {z : B}
     (f g : R → ℕ → ℕ → B) {s s′ : ℕ} {old new old′ new′ : List B} {scratch scratch₁ scratch′ scratch₁′ : S}
     {answer answer′ : A} where
-  pub ends-alike : SamePicture a b → d ≡ d′ → s ≡ s′ → length old ≡ length old′
+  pub ends-alike-at : (w h : ℕ) {w′ h′ : ℕ} → w ≡ w′ → h ≡ h′ → d ≡ d′ → s ≡ s′ → length old ≡ length old′
+      → ((found : R) → d ≡ accepts found → Laid (length old) w h s)
+      → ((found : R) → d ≡ accepts found → (c r : ℕ) → c < w → r < h → f found c r ≡ g found c r)
+      → Outcome d answers (λ found. Painted z (f found) w h s) old new scratch scratch₁ answer
+      → Outcome d′ answers (λ found. Painted z (g found) w′ h′ s′) old′ new′ scratch′ scratch₁′ answer′
+      → SameEnd d z w h s new new′ answer answer′
+  ends-alike-at w h ew eh e es el laid agree o o′ =
+      record {
+        same-answer = answers-alike e o o′;
+        same-pixels = λ found is c r hc hr.
+            let l = laid found is in
+            let P : Painted z (g found) w h s old′ new′ = rw (ew, eh, es) (o′ .written found (sym e ∙ is)) in
+            painted-get (f found) w h s (o .written found is) c r hc hr (l .stride-least) (place-within l c r hc hr)
+            ∙ agree found is c r hc hr
+            ∙ sym (painted-get (g found) w h s P c r hc hr (l .stride-least)
+            (rw (← el) (place-within l c r hc hr)));
+      }
+
+  -- a picture of the source's size
+  pub ends-alike : {a b : Gray8} → SamePicture a b → d ≡ d′ → s ≡ s′ → length old ≡ length old′
       → ((found : R) → d ≡ accepts found → Laid (length old) (a .width) (a .height) s)
       → ((found : R) → d ≡ accepts found → (c r : ℕ) → c < a .width → r < a .height → f found c r ≡ g found c r)
       → Outcome d answers (λ found. Painted z (f found) (a .width) (a .height) s) old new scratch scratch₁ answer
       → Outcome d′ answers (λ found. Painted z (g found) (b .width) (b .height) s′) old′ new′ scratch′ scratch₁′ answer′
       → SameEnd d z (a .width) (a .height) s new new′ answer answer′
-  ends-alike same e es el laid agree o o′ =
-      record {
-        same-answer = answers-alike e o o′;
-        same-pixels = λ found is c r hc hr.
-            let l = laid found is in
-            let P : Painted z (g found) (a .width) (a .height) s old′ new′ =
-            rw (same .same-width, same .same-height, es) (o′ .written found (sym e ∙ is)) in
-            painted-get (f found) (a .width) (a .height) s (o .written found is) c r hc hr (l .stride-least)
-            (place-within l c r hc hr)
-            ∙ agree found is c r hc hr
-            ∙ sym (painted-get (g found) (a .width) (a .height) s P c r hc hr (l .stride-least)
-            (rw (← el) (place-within l c r hc hr)));
-      }
+  ends-alike {a} same = ends-alike-at (a .width) (a .height) (same .same-width) (same .same-height)

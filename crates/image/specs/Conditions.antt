@@ -35,10 +35,14 @@ layoutConditions len width height stride =
     ∷ given 4 (len < stride * (height - 1) + width)
     ∷ []
 
--- "5. The destination's own layout meets one of 1 to 4." `Laid` is a layout that meets none.
+-- "5. The destination's own layout meets one of 1 to 4." `Laid` is a layout that meets none. 6 where it has not the
+-- sides w and h.
+abbrev pub sizedConditions : ℕ → ℕ → ℕ → ℕ → ℕ → ℕ → List Refusal
+sizedConditions dstLen dstWidth dstHeight dstStride w h =
+    given 5 (Laid dstLen dstWidth dstHeight dstStride → ⊥)
+    ∷ given 6 ((dstWidth ≡ w → ⊥) ⊎ (dstHeight ≡ h → ⊥))
+    ∷ []
+
 abbrev pub pairConditions : ℕ → ℕ → ℕ → ℕ → ℕ → ℕ → ℕ → ℕ → List Refusal
 pairConditions len width height stride dstLen dstWidth dstHeight dstStride =
-    layoutConditions len width height stride
-    ++ (given 5 (Laid dstLen dstWidth dstHeight dstStride → ⊥)
-    ∷ given 6 ((dstWidth ≡ width → ⊥) ⊎ (dstHeight ≡ height → ⊥))
-    ∷ [])
+    layoutConditions len width height stride ++ sizedConditions dstLen dstWidth dstHeight dstStride width height

@@ -34,13 +34,18 @@ destinationRefusal len width height stride = cond (eqb (layoutRefusal len width 
 unfoldable pub sizesRefusal : ℕ → ℕ → ℕ → ℕ → ℕ
 sizesRefusal width height dstWidth dstHeight = cond (eqb dstWidth width && eqb dstHeight height) 0 6
 
+-- 5 and 6 of a destination that must have the sides w and h
+unfoldable pub sizedRefusal : ℕ → ℕ → ℕ → ℕ → ℕ → ℕ → ℕ
+unfolding destinationRefusal sizesRefusal
+sizedRefusal dstLen dstWidth dstHeight dstStride w h =
+    firstRefusal (destinationRefusal dstLen dstWidth dstHeight dstStride) (sizesRefusal w h dstWidth dstHeight)
+
 -- 1 to 4 of the source, then 5 and 6
 unfoldable pub pairRefusal : ℕ → ℕ → ℕ → ℕ → ℕ → ℕ → ℕ → ℕ → ℕ
-unfolding destinationRefusal sizesRefusal
+unfolding sizedRefusal
 pairRefusal len width height stride dstLen dstWidth dstHeight dstStride =
     firstRefusal (layoutRefusal len width height stride)
-    (firstRefusal (destinationRefusal dstLen dstWidth dstHeight dstStride)
-    (sizesRefusal width height dstWidth dstHeight))
+    (sizedRefusal dstLen dstWidth dstHeight dstStride width height)
 
 -- An accepted layout: `layoutRefusal` is 0 exactly there.
 pub record Laid (len width height stride : ℕ) : Type 0 where
@@ -50,6 +55,12 @@ pub record Laid (len width height stride : ℕ) : Type 0 where
   pub height-most : height ≤ maxSide
   pub stride-least : width ≤ stride
   pub len-least : stride * (height - 1) + width ≤ len
+
+-- An accepted destination of the sides w and h: `sizedRefusal` is 0 exactly there.
+pub record LaidAt (dstLen dstWidth dstHeight dstStride w h : ℕ) : Type 0 where
+  pub destination : Laid dstLen dstWidth dstHeight dstStride
+  pub same-width : dstWidth ≡ w
+  pub same-height : dstHeight ≡ h
 
 -- An accepted source and destination: `pairRefusal` is 0 exactly there.
 pub record LaidPair (len width height stride dstLen dstWidth dstHeight dstStride : ℕ) : Type 0 where

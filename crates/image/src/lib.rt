@@ -1,9 +1,10 @@
 // Pictures in the caller's bytes: the layout's refusals, pixels and rows.
 ghost use mathlib.Core.Path.{_≡_};
-ghost use Rattle.image.specs.Refusal.{sidesRefusal, layoutRefusal, pairRefusal};
+ghost use Rattle.image.specs.Refusal.{sidesRefusal, layoutRefusal, sizedRefusal, pairRefusal};
 ghost use Rattle.image.specs.Picture.{pixelOf, rowOf};
 ghost use Rattle.image.specs.View.{OnlyReads};
 
+pub mod kernel;
 pub mod view;
 
 pub use view::Gray8View;
@@ -40,6 +41,26 @@ pub fn layout_refusal(len: usize, width: usize, height: usize, stride: usize) ->
     0
 }
 
+// Refusals 5 and 6 of a destination in len bytes: its layout, and where its sides are not the ones asked for.
+pub fn sized_refusal(
+    len: usize,
+    width: usize,
+    height: usize,
+    stride: usize,
+    asked_width: usize,
+    asked_height: usize,
+) -> u8
+    ensures { λ r. ⌜ r ≡ sizedRefusal len width height stride «asked_width» «asked_height» ⌝ }
+{
+    if layout_refusal(len, width, height, stride) != 0 {
+        return 5;
+    }
+    if width != asked_width || height != asked_height {
+        return 6;
+    }
+    0
+}
+
 // Refusals 1 to 6 of a source and a destination; 0 where both are accepted and of one size.
 pub fn pair_refusal(
     src_len: usize,
@@ -57,13 +78,7 @@ pub fn pair_refusal(
     if own != 0 {
         return own;
     }
-    if layout_refusal(dst_len, dst_width, dst_height, dst_stride) != 0 {
-        return 5;
-    }
-    if dst_width != width || dst_height != height {
-        return 6;
-    }
-    0
+    sized_refusal(dst_len, dst_width, dst_height, dst_stride, width, height)
 }
 
 // A pixel, or that there is none at a place.

@@ -1,15 +1,12 @@
--- Bytes put from a place on: a line of digits, a copied row. One run behind the other: `image/proofs/Appending`.
+-- Bytes put from a place on: a line of digits. One run behind the other: `image/proofs/Appending`.
 use Prim.Native.Nat.{ℕ, _+_, _-_, _<_}
 use native.Mathlib.Numerals.{add-one}
 use native.Mathlib.Omega.{arith}
-use mathlib.Core.List.{List, [], _∷_, _++_, append-assoc, append-nil}
+use mathlib.Core.List.{List, [], _∷_, _++_, append-assoc}
 use mathlib.Core.Path.{_≡_, sym, ap, ap₂, _∙_}
 use lib.ListN.{length, getD, set, take, drop, length-append}
-use lib.Seq.{length-take-le, drop-drop, drop-cons, set-at, take-length, drop-length}
-use Rattle.numbers.specs.Written.{Written, front}
+use lib.Seq.{length-take-le, drop-drop, drop-cons, set-at}
 use Rattle.numbers.proofs.List.{length-part}
-use Rattle.numbers.proofs.Places.{front-iff}
-use Rattle.numbers.proofs.Test.{false-not-true}
 use Rattle.image.specs.Call.{Appended}
 use Rattle.pgm.specs.Write.{digits, digitCount, decimal, numberLine}
 use Rattle.pgm.proofs.Digits.{length-digits, length-line}
@@ -51,20 +48,3 @@ module _ (n at e : ℕ) (old ys : List ℕ) (is : e ≡ at + digitCount n) (belo
             ∙ ap (_++_ (take at old)) (sym (append-assoc ys (10 ∷ []) (drop (e + 1) old)))
             ∙ ap₂ (λ (zs : List ℕ) (k : ℕ). take at old ++ (zs ++ (10 ∷ []) ++ drop k old)) ys-are l;
       }
-
--- ---- a copied row
-
--- what `bytes::copy` leaves of as many bytes
-pub copied-written : (src dst : List ℕ) {new : List ℕ} → length src ≡ length dst
-    → new ≡ take (length src) src ++ drop (length src) dst
-    → Written 0 (front (length src)) (λ x. getD src x 0) dst new
-copied-written src dst {new} same e =
-    record {
-      same-length = ap length all ∙ same;
-      hits = λ j _ _. ap (λ (xs : List ℕ). getD xs j 0) all;
-      rest = λ j below miss. absurd (false-not-true miss (front-iff (length src) j .1 (omega arith)));
-    }
-  where
-    all : new ≡ src
-    all =
-        e ∙ ap₂ _++_ (take-length src) (ap (λ (n : ℕ). drop n dst) same ∙ drop-length dst) ∙ append-nil src

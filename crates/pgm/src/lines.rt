@@ -73,11 +73,5 @@ pub(crate) fn put_pixels(data: &[u8], width: usize, height: usize, stride: usize
     requires { ⌜ length (now out) ≡ width * height ⌝ }
     ensures { λ r. ⌜ now (out .exit) ≡ pixelsOf width height (pixel (now («data» .entry)) stride) ⌝ }
 {
-    let mut y = 0;
-    while y < height {
-        let from = y * stride;
-        let to = y * width;
-        bytes::copy(&data[from..from + width], &mut out[to..to + width]);
-        y += 1;
-    }
+    image::kernel::copy_rows(data, width, height, stride, out, width);
 }

@@ -48,6 +48,23 @@ uint8_t smear_fixed_binomial_unsharp(
     uint8_t *dst, size_t dst_len, size_t dst_width, size_t dst_height, size_t dst_stride,
     uint16_t *scratch, size_t scratch_len);
 
+/* `src` at half its size, into `dst`: pixel (c, r) is the sum of the four pixels (2c, 2r) to (2c + 1, 2r + 1) and 2,
+ * divided by 4 and floored; an odd last column or row is left out. `dst` has half of each side, floored.
+ * Refusals: 1 to 4 of the source, 18 of a side below 2, 5 of the destination's layout, 6 of a destination of another
+ * size. */
+uint8_t smear_box_downscale_half(
+    const uint8_t *src, size_t src_len, size_t width, size_t height, size_t stride,
+    uint8_t *dst, size_t dst_len, size_t dst_width, size_t dst_height, size_t dst_stride);
+
+/* The same `count` times, 0 to 10: each halving rounds, and 0 is a copy. `dst` has what is left of each side, halved
+ * and floored so often. `scratch` has at least width * height elements, whatever the count.
+ * Refusals: 1 to 4 of the source, 18 of a count above 10 or a halving that would start from a side below 2, 5 of the
+ * destination's layout, 6 of a destination of another size, 10 of a short scratch. */
+uint8_t smear_halve(
+    const uint8_t *src, size_t src_len, size_t width, size_t height, size_t stride,
+    uint8_t *dst, size_t dst_len, size_t dst_width, size_t dst_height, size_t dst_stride,
+    size_t count, uint8_t *scratch, size_t scratch_len);
+
 /* Restoration of `src` along the direction nearest to `angle`, cut to 0..255, into `dst`. `blur_length` is odd, from 3
  * to 2 * max(width, height) + 1; `iterations` 1 to 22; `relaxation` 0 to 1. `border` is what stands beyond a line's
  * ends: 0 their nearer pixel, 1 the line reflected, 3 the line again, any other `border_value`. `scratch` has at least

@@ -19,6 +19,8 @@ use Rattle.deblur.specs.Settings.{LineFilter}
 use Rattle.deblur.proofs.Determined.{filter-one, estimate-one}
 use Rattle.sharpen.specs.Call.{sharpenDecision, sharpenWrites}
 use Rattle.sharpen.proofs.Determined.{sharpen-one}
+use Rattle.resize.specs.Call.{boxDecision, boxWrites, halveDecision, halveWrites}
+use Rattle.resize.proofs.Determined.{box-one, halve-one}
 use Rattle.job.specs.declared.JobConfig.{JobConfig}
 use Rattle.job.specs.Job.{jobOf, layoutOf, plan, jobWrites}
 use Rattle.job.proofs.Determined.{job-one, lengths}
@@ -30,6 +32,7 @@ use Rattle.smear_c.specs.Direction.{DirectionOuts, directionOuts}
 use Rattle.smear_c.specs.Length.{pixelsOf, LengthMeasuredC}
 use Rattle.smear_c.specs.Pictures.{pictureOuts, PgmWrittenC}
 use Rattle.smear_c.specs.Program.{RanC}
+use Rattle.smear_c.specs.Resizing.{BoxHalvedC, HalvedC}
 use Rattle.smear_c.specs.Restoration.{FilteredC, EstimateWrittenC}
 use Rattle.smear_c.specs.Sharpening.{SharpenedC}
 use Rattle.smear_c.specs.WholeJob.{JobOuts, jobOuts, RestoredC}
@@ -75,6 +78,18 @@ pub sharpened-determined : (src dst : Gray8)
 sharpened-determined src dst =
     outcome-determines length (sharpenDecision src dst) numberOf (sharpenWrites src (dst .stride))
     (sharpen-one src (dst .stride)) (dst .bytes)
+
+pub box-halved-determined : (src dst : Gray8)
+    → Determines {S = Unit {0}} (λ s. s) (λ _ _ new r. BoxHalvedC src dst new r)
+box-halved-determined src dst =
+    outcome-determines (λ s. s) (λ _. boxDecision src dst) numberOf (boxWrites src (dst .stride))
+    (box-one src (dst .stride)) (dst .bytes)
+
+pub halved-determined : (count : ℕ) (src dst : Gray8)
+    → Determines length (λ scratch scratch′ new r. HalvedC count src dst new scratch scratch′ r)
+halved-determined count src dst =
+    outcome-determines length (halveDecision count src dst) numberOf (halveWrites count src (dst .stride))
+    (halve-one count src (dst .stride)) (dst .bytes)
 
 pub restored-determined : (src dst : Gray8) (config : JobConfig) (before : JobOuts)
     → Determines {D = List ℕ × JobOuts} lengths

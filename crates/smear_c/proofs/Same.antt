@@ -1,6 +1,6 @@
 -- The calls as C has them, on sources that show the same picture (document 01, "Views and lines"): the same number and,
 -- where they accept, the same pixels and out-parameters, whatever old destinations, out-parameters and scratch hold.
-use Prim.Native.Nat.{ℕ}
+use Prim.Native.Nat.{ℕ, _/_}
 use mathlib.Core.List.{List, _++_}
 use mathlib.Core.Path.{_≡_, refl, sym, ap, _∙_}
 use lib.IntN.{ℤ, pos}
@@ -20,6 +20,9 @@ use Rattle.deblur.specs.Settings.{LineFilter}
 use Rattle.deblur.proofs.Same.{filter-same, filtered-same, estimate-call-same, estimates-same}
 use Rattle.sharpen.specs.Call.{sharpenAnswer, sharpenDecision}
 use Rattle.sharpen.proofs.Same.{sharpen-same, sharpened-same}
+use Rattle.resize.specs.Call.{resizeAnswer, boxDecision, halveDecision}
+use Rattle.resize.specs.Halving.{sideAfter}
+use Rattle.resize.proofs.Same.{box-same, box-halved-same, halve-same, halved-alike}
 use Rattle.job.specs.Job.{layoutOf, jobOf, plan, jobAnswer, jobWrites}
 use Rattle.job.specs.declared.JobConfig.{JobConfig}
 use Rattle.job.proofs.Same.{job-same, restored-same}
@@ -31,6 +34,7 @@ use Rattle.smear_c.specs.Direction.{DirectionOuts, directionOuts}
 use Rattle.smear_c.specs.Length.{LengthMeasuredC}
 use Rattle.smear_c.specs.Pictures.{PgmWrittenC}
 use Rattle.smear_c.specs.Program.{RanC}
+use Rattle.smear_c.specs.Resizing.{BoxHalvedC, HalvedC}
 use Rattle.smear_c.specs.Restoration.{FilteredC, EstimateWrittenC}
 use Rattle.smear_c.specs.Sharpening.{SharpenedC}
 use Rattle.smear_c.specs.WholeJob.{JobOuts, RestoredC}
@@ -149,6 +153,21 @@ module _ {a b : Gray8} (same : SamePicture a b) where
     sharpened-same-c lent o o′ =
         numbered (answers-alike (sharpen-same same alike lent) o o′)
         (sharpened-same same alike lent (answered-by sharpenAnswer o) (answered-by sharpenAnswer o′))
+
+    pub box-halved-same-c : {new new′ : List ℕ} {r r′ : ℕ} → BoxHalvedC a dst new r → BoxHalvedC b dst′ new′ r′
+        → SameEnd (boxDecision a dst) 0 (a .width / 2) (a .height / 2) (dst .stride) new new′ r r′
+    box-halved-same-c o o′ =
+        numbered (answers-alike (box-same same alike) o o′)
+        (box-halved-same same alike (answered-by resizeAnswer o) (answered-by resizeAnswer o′))
+
+    pub halved-same-c : (count : ℕ) {new new′ scratch scratch₁ scratch′ scratch₁′ : List ℕ} {r r′ : ℕ}
+        → length scratch ≡ length scratch′ → HalvedC count a dst new scratch scratch₁ r
+        → HalvedC count b dst′ new′ scratch′ scratch₁′ r′
+        → SameEnd (halveDecision count a dst (length scratch)) 0 (sideAfter count (a .width))
+        (sideAfter count (a .height)) (dst .stride) new new′ r r′
+    halved-same-c count lent o o′ =
+        numbered (answers-alike (halve-same same count alike lent) o o′)
+        (halved-alike same count alike lent (answered-by resizeAnswer o) (answered-by resizeAnswer o′))
 
     pub restored-same-c : {new new′ : List ℕ} (config : JobConfig) {scratch scratch₁ scratch′ scratch₁′ : List ℤ}
         {swings swings₁ swings′ swings₁′ : List Swing} {before after before′ after′ : JobOuts} {r r′ : ℕ}

@@ -2,6 +2,7 @@
 pub mod Direction
 pub mod Restoration
 pub mod Sharpening
+pub mod Resizing
 pub mod Length
 pub mod WholeJob
 pub mod Program

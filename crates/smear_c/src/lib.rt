@@ -4,6 +4,7 @@ pub mod direction;
 pub mod length;
 pub mod pictures;
 pub mod program;
+pub mod resizing;
 pub mod restoration;
 pub mod sharpening;
 pub mod sheet;

@@ -13,8 +13,8 @@ use Rattle.floats.specs.Factor.{quantized}
 use Rattle.floats.specs.declared.Quantized.{Quantized}
 use Rattle.floats.specs.declared.Quantized.the-variants.{Q16}
 use Rattle.image.specs.Call.{gray8, Decision, accepts, refuses}
-use Rattle.image.specs.Picture.{pixel, tabulate}
-use Rattle.image.specs.Refusal.{sidesRefusal, layoutRefusal, pairRefusal}
+use Rattle.image.specs.Picture.{pixel, tabulate, pixelsOf}
+use Rattle.image.specs.Refusal.{sidesRefusal, layoutRefusal, sizedRefusal, pairRefusal}
 use Rattle.pgm.specs.Form.{onFrom}
 use Rattle.pgm.specs.Read.{readDecision, readAnswer}
 use Rattle.pgm.specs.Write.{digits, digitCount, writeDecision}
@@ -47,6 +47,8 @@ use Rattle.deblur.specs.Refusal as deblur
 use Rattle.deblur.specs.Settings.{LineFilter, restorationOf, unsharpOf}
 use Rattle.sharpen.specs.Binomial.{tapPlace, binomialSum, sharper, unsharp}
 use Rattle.sharpen.specs.Call.{binomialRefusal}
+use Rattle.resize.specs.Call as resize
+use Rattle.resize.specs.Halving.{meanOfFour, halvedTimes, sideAfter, startsBelow2}
 use Rattle.job.specs.Floor.{configFloor}
 use Rattle.job.specs.Job.{layout, jobOf, jobDefault, jobRefusal, startRefusal, pictureDirection, plan, jobAnswer}
 use Rattle.job.specs.declared.JobAnswer.{JobAnswer}
@@ -83,6 +85,19 @@ corner = 0 ∷ 0 ∷ 0 ∷ 0 ∷ 0 ∷ 10 ∷ 10 ∷ 0 ∷ 0 ∷ 0 ∷ 10 ∷ 0 
 
 equal : List ℕ
 equal = 2 ∷ 2 ∷ 1 ∷ 2 ∷ 1 ∷ 1 ∷ 2 ∷ 2 ∷ 2 ∷ 2 ∷ 1 ∷ 0 ∷ 1 ∷ 2 ∷ 2 ∷ 1 ∷ []
+
+-- K8's 4 by 4, in which each halving rounds, and its 5 by 5, whose last column and row are dropped
+rounding : List ℕ
+rounding = 1 ∷ 2 ∷ 1 ∷ 1 ∷ 2 ∷ 2 ∷ 0 ∷ 0 ∷ 2 ∷ 1 ∷ 2 ∷ 2 ∷ 0 ∷ 0 ∷ 1 ∷ 1 ∷ []
+
+odd : List ℕ
+odd =
+    0 ∷ 1 ∷ 255 ∷ 255 ∷ 9
+    ∷ 1 ∷ 1 ∷ 255 ∷ 254 ∷ 9
+    ∷ 10 ∷ 20 ∷ 30 ∷ 40 ∷ 9
+    ∷ 50 ∷ 60 ∷ 70 ∷ 80 ∷ 9
+    ∷ 9 ∷ 9 ∷ 9 ∷ 9 ∷ 9
+    ∷ []
 
 -- ---- records on 5 by 1, by their bytes
 
@@ -162,6 +177,11 @@ data Question : Type 0 where
   length-of-four : ℕ → List ℕ → ℕ → Question
   -- .. and the row restored along an angle, by the iterations
   row-along : ℕ → ℕ → Question
+  -- document 02, K8: a square picture, its side, and how often it is halved
+  square-halved : List ℕ → ℕ → ℕ → Question
+  -- .. and the refusals of so many halvings and of the single one, by the source's sides, the destination's, the count
+  -- and the scratch
+  halvings-lent : ℕ → ℕ → ℕ → ℕ → ℕ → ℕ → Question
 
 data Answer : Type 0 where
   direction : SnappedDirection → Answer
@@ -234,7 +254,7 @@ bytes (accepts xs) = pixels xs
 bytes (refuses number) = refused number
 
 value : Question → Answer
-unfolding three-ramps row written filtered estimated along-angle along-row bytes
+unfolding three-ramps row unless written filtered estimated along-angle along-row bytes
 value (direction-of angle) = direction (fromAngle (ofBits binary64 angle))
 value (length-of-ramps minimum) =
     measured (lengthAnswer (lengthDecision (gray8 three-ramps 10 3 10) Horizontal minimum 24 30))
@@ -282,6 +302,13 @@ value (job-floor xs w h scratch c) =
 value (length-of-four angle xs records) =
     measured (lengthAnswer (snappedDecision (gray8 xs 2 2 2) (fromAngle (ofBits binary64 angle)) 8 24 records))
 value (row-along angle iterations) = filtered (along-angle angle 3 iterations Replicate)
+value (square-halved xs n count) =
+    let m = sideAfter count n in
+    unless (resize.halveRefusal (n * n) n n n (m * m) m m m count (n * n))
+    (pixels (pixelsOf m m (halvedTimes count (pixel xs n))))
+value (halvings-lent w h dw dh count scratch) =
+    numbers (resize.halveRefusal (w * h) w h w (dw * dh) dw dh dw count scratch
+    ∷ resize.boxRefusal (w * h) w h w (dw * dh) dw dh dw ∷ [])
 
 -- ---- the list
 
@@ -295,7 +322,7 @@ q gives a = record { asked = q; must-be = a }
 
 cases : List Case
 unfolding _gives_ restored-over sharpened-over-3 binomial vertical-over-11 none row p5 d1 d255 d1025 beyond three-ramps
-    corner equal
+    corner equal rounding odd
 cases =
     -- "0.39 gives Horizontal★, 0.40 DownRight★, .. NaN ..★", which has none by document 02, K7
     direction-of 0x3fd8_f5c2_8f5c_28f6 gives direction (snapped.Found Horizontal)
@@ -426,16 +453,37 @@ cases =
     ∷ row-along 0x7f91_df46_a252_9d39 0 gives refused 7
     ∷ sheet-of (take 16 (restored-over 3) ++ (0x39 ∷ 0x9d ∷ 0x52 ∷ 0xa2 ∷ 0x46 ∷ 0xdf ∷ 0x91 ∷ 0x7f ∷ replicate 8 0))
     gives sheet (summary.Refused 13 0)
+    -- K8: each halving rounds, where one mean over sixteen would give 1; an odd last row and column are dropped
+    ∷ square-halved rounding 4 0 gives pixels rounding
+    ∷ square-halved rounding 4 2 gives pixels (2 ∷ [])
+    ∷ square-halved odd 5 1 gives pixels (1 ∷ 255 ∷ 35 ∷ 55 ∷ [])
+    ∷ square-halved odd 5 2 gives pixels (87 ∷ [])
+    -- 3 by 3: once accepted, twice 18. 1,024 by 1,024 at 10 gives one pixel, 1,023 by 1,024 gives 18; 11 is too many
+    ∷ halvings-lent 3 3 1 1 1 9 gives numbers (0 ∷ 0 ∷ [])
+    ∷ halvings-lent 3 3 1 1 2 9 gives numbers (18 ∷ 0 ∷ [])
+    ∷ halvings-lent 1024 1024 1 1 10 1048576 gives numbers (0 ∷ 6 ∷ [])
+    ∷ halvings-lent 1023 1024 1 1 10 1048576 gives numbers (18 ∷ 6 ∷ [])
+    ∷ halvings-lent 1024 1024 1 1 11 1048576 gives numbers (18 ∷ 6 ∷ [])
+    -- the order: 4, 18, 5, 6, 10, which a count of 0 gives too; a lone pixel can be copied, not halved
+    ∷ halvings-lent 0 1 0 0 1 0 gives numbers (1 ∷ 1 ∷ [])
+    ∷ halvings-lent 1 1 0 0 1 0 gives numbers (18 ∷ 18 ∷ [])
+    ∷ halvings-lent 2 2 0 0 1 0 gives numbers (5 ∷ 5 ∷ [])
+    ∷ halvings-lent 2 2 2 2 1 0 gives numbers (6 ∷ 6 ∷ [])
+    ∷ halvings-lent 2 2 1 1 1 3 gives numbers (10 ∷ 0 ∷ [])
+    ∷ halvings-lent 1 1 1 1 0 0 gives numbers (10 ∷ 18 ∷ [])
+    ∷ halvings-lent 1 1 1 1 0 1 gives numbers (0 ∷ 18 ∷ [])
     ∷ []
 
 -- ---- the theorem
 
 stars : map (λ c. value (c .asked)) cases ≡ map (λ c. c .must-be) cases
-unfolding cases value ofBits ofInt add sub mul div rem le lt eq fromAngle lengthDecision layoutRefusal pairRefusal
-    startCol startRow lineOf swingsFrom levelOf crossedAt placeAt crossingOf riseBetween borderMap iteration.mean window
-    sample total quantized deblur.filterRefusal deblur.estimateRefusal deblur.blurLengthRefusal
+unfolding cases value ofBits ofInt add sub mul div rem le lt eq fromAngle lengthDecision layoutRefusal sizedRefusal
+    pairRefusal startCol startRow lineOf swingsFrom levelOf crossedAt placeAt crossingOf riseBetween borderMap
+    iteration.mean window sample total quantized deblur.filterRefusal deblur.estimateRefusal deblur.blurLengthRefusal
     deblur.factorRefusal deblur.iterationsRefusal estimate estimateOn iteration.after iteration.stepped plan
     startRefusal passes jobRefusal pictureDirection estimateOf tensorSums tensorDirection interiorSum rowSum gradientX
     gradientY binomialRefusal sharper binomialSum tapPlace count summarized readRecord recordOf decoded legal
-    littleEndian onFrom readDecision sidesRefusal digits digitCount tabulate jobDefault
+    littleEndian onFrom readDecision sidesRefusal digits digitCount tabulate jobDefault resize.halveRefusal
+    resize.halvingRefusal resize.countRefusal resize.boxRefusal resize.boxSidesRefusal meanOfFour halvedTimes sideAfter
+    startsBelow2
 stars = refl

@@ -12,6 +12,8 @@ use deblur::van_cittert_line_into;
 use raster::border::LineBorderMode;
 use raster::direction::RasterDirection4;
 use raster::direction::SnappedDirection;
+use resize::box_downscale_half;
+use resize::halve;
 use sharpen::fixed_binomial_unsharp_into;
 use swings::Swing;
 use tensor::direction::DirectionAnswer;
@@ -144,6 +146,37 @@ fn binomial(c: Case, source: &[u8], destination: &mut [u8]) -> Outcome {
     refused(answer.number())
 }
 
+fn half(c: Case, source: &[u8], destination: &mut [u8]) -> Outcome {
+    let answer = box_downscale_half(
+        source,
+        c.source.width,
+        c.source.height,
+        c.source.stride,
+        destination,
+        c.destination.width,
+        c.destination.height,
+        c.destination.stride,
+    );
+    refused(answer.number())
+}
+
+fn halvings(c: Case, source: &[u8], destination: &mut [u8]) -> Outcome {
+    let mut scratch = [0u8; 256];
+    let answer = halve(
+        source,
+        c.source.width,
+        c.source.height,
+        c.source.stride,
+        destination,
+        c.destination.width,
+        c.destination.height,
+        c.destination.stride,
+        c.count,
+        &mut scratch,
+    );
+    refused(answer.number())
+}
+
 fn measure(c: Case, source: &[u8]) -> Outcome {
     let config = LineLengthConfig {
         minimum_transitions: c.count,
@@ -183,6 +216,8 @@ pub(crate) fn call(c: Case, source: &[u8], destination: &mut [u8]) -> Outcome {
         3 => restore(c, source, destination),
         4 => unsharp(c, source, destination),
         5 => binomial(c, source, destination),
+        6 => half(c, source, destination),
+        7 => halvings(c, source, destination),
         _ => refused(255),
     }
 }

@@ -1,12 +1,13 @@
 // A case of the list: 50 bytes of numbers, little-endian, then the source's bytes, then the destination's as the Rust
 // leaves it.
 //
-//    0  the call: 0 from_angle, 1 direction, 2 length, 3 restoration, 4 line unsharp, 5 binomial
+//    0  the call: 0 from_angle, 1 direction, 2 length, 3 restoration, 4 line unsharp, 5 binomial, 6 single halving,
+//       7 halvings
 //    1  the number of the refusal, 0 where the call is accepted; 7 for 8 too, since the Rust has one error for both
 //    2  the direction's number; for a length 1 where there is one
 //    3  border: 0 Replicate, 1 Reflect, 2 Constant; at 4 its value
 //    5  least amplitude of a swing
-//    6  iterations, or least number of swings, 2 bytes
+//    6  iterations, least number of swings, or halvings, 2 bytes
 //    8  blur length, 2 bytes
 //   10  length, width, height and stride of the source, 2 bytes each; at 18 those of the destination
 //   26  angle, at 34 relaxation or gain, at 42 the length: bits of a double, 8 bytes each

@@ -8,6 +8,7 @@ ghost use Rattle.deblur.specs.Settings.{restorationOf, unsharpOf};
 ghost use Rattle.job.specs.Job.{Restored};
 ghost use Rattle.pgm.specs.Write.{PgmWritten};
 ghost use Rattle.raster.specs.Direction.{fromAngle};
+ghost use Rattle.resize.specs.Call.{BoxHalved, Halved};
 ghost use Rattle.sharpen.specs.Call.{Sharpened};
 ghost use Rattle.views.specs.Pictures.{lent, seen};
 use blur::length::LengthAnswer;
@@ -20,6 +21,7 @@ use image::Gray8ViewMut;
 use job::JobAnswer;
 use job::JobConfig;
 use pgm::WriteAnswer;
+use resize::ResizeAnswer;
 use sharpen::SharpenAnswer;
 use swings::Swing;
 use tensor::direction::DirectionAnswer;
@@ -153,6 +155,44 @@ pub fn fixed_binomial_unsharp_into<'a, 'b>(
         dst.width,
         dst.height,
         dst.stride,
+        scratch,
+    )
+}
+
+pub fn box_downscale_half<'a, 'b>(src: Gray8View<'a>, dst: Gray8ViewMut<'b>) -> ResizeAnswer
+    ensures { λ r. ⌜ BoxHalved (seen (src .entry)) (lent (dst .entry)) (now (dst .exit .0)) r ⌝ }
+{
+    resize::box_downscale_half(
+        src.data,
+        src.width,
+        src.height,
+        src.stride,
+        &mut *dst.data,
+        dst.width,
+        dst.height,
+        dst.stride,
+    )
+}
+
+pub fn halve<'a, 'b>(
+    src: Gray8View<'a>,
+    dst: Gray8ViewMut<'b>,
+    count: usize,
+    scratch: &mut [u8],
+) -> ResizeAnswer
+    ensures { λ r. ⌜ Halved count (seen (src .entry)) (lent (dst .entry)) (now (dst .exit .0)) (now (scratch .entry))
+        (now (scratch .exit)) r ⌝ }
+{
+    resize::halve(
+        src.data,
+        src.width,
+        src.height,
+        src.stride,
+        &mut *dst.data,
+        dst.width,
+        dst.height,
+        dst.stride,
+        count,
         scratch,
     )
 }

@@ -2,6 +2,7 @@
 
 use super::{Call, Case, OLD};
 use crate::degrees::{around, LAST};
+use crate::halve::left;
 use crate::picture::Picture;
 use crate::random::Random;
 use qr_lab_imgproc::deblur::LineBorderMode;
@@ -292,10 +293,49 @@ fn binomial(random: &mut Random) -> Vec<Case> {
     out
 }
 
+/// So many halvings into a destination that fits, with so many bytes between its rows and one behind, or, where none
+/// fits, of one pixel. One halving is a case of the single call too.
+fn halvings(source: &Picture, count: usize, between: usize) -> Vec<Case> {
+    let (width, height) = left((source.width, source.height), count).unwrap_or((1, 1));
+    let stride = width + between;
+    let destination = Picture { data: vec![OLD; stride * (height - 1) + width + 1], width, height, stride };
+    let case = |call| Case { destination: destination.clone(), count, ..Case::new(call, source.clone()) };
+    let calls = if count == 1 { &[Call::Halve, Call::Half][..] } else { &[Call::Halve] };
+    calls.iter().map(|&call| case(call)).collect()
+}
+
+fn halved(random: &mut Random) -> Vec<Case> {
+    let mut out = Vec::new();
+    let mut add = |source: &Picture, counts: &[usize], between| {
+        out.extend(counts.iter().flat_map(|&count| halvings(source, count, between)))
+    };
+    // each halving rounds; an odd last column and row are left out; a side of 3 is halved once
+    add(&tight(4, &[1, 2, 1, 1, 2, 2, 0, 0, 2, 1, 2, 2, 0, 0, 1, 1]), &[0, 1, 2, 3], 0);
+    let odd = [0, 1, 255, 255, 9, 1, 1, 255, 254, 9, 10, 20, 30, 40, 9, 50, 60, 70, 80, 9, 9, 9, 9, 9, 9];
+    add(&tight(5, &odd), &[0, 1, 2, 3], 1);
+    add(&tight(3, &[0, 1, 9, 1, 0, 9, 9, 9, 9]), &[1, 2], 0);
+    // every remainder of a sum by 4, at the ends of the range
+    for four in [[0, 0, 0, 1], [0, 1, 0, 1], [1, 1, 1, 0], [254, 255, 255, 255], [255, 254, 254, 255], [255; 4]] {
+        add(&tight(2, &four), &[1], 0);
+    }
+    for (k, (width, height)) in SIZES.into_iter().chain([(16, 16), (9, 15)]).enumerate() {
+        let plain = either(random, k, width, height);
+        let source = padded(random, &plain, k % 4);
+        let too_many = (0..).find(|&count| left((width, height), count).is_none()).expect("no side is endless");
+        add(&source, &(0..=too_many).collect::<Vec<_>>(), k % 3);
+    }
+    let small = noise(random, 4, 3);
+    add(&small, &[10, 11, 65_535], 0);
+    for source in refused_layouts(&small) {
+        add(&source, &[1, 11], 0);
+    }
+    out
+}
+
 pub fn cases() -> Vec<Case> {
     let mut random = Random::new(9);
     let mut out = from_angle();
-    for more in [direction, length, restoration, unsharp, binomial] {
+    for more in [direction, length, restoration, unsharp, binomial, halved] {
         out.extend(more(&mut random));
     }
     out

@@ -1,5 +1,5 @@
--- The length call is given each number in its condition and otherwise never (`length-exactly`), and 0 exactly where it
--- is accepted (`length-iff`).
+-- The length call is given each number in its condition and otherwise never (`length_exactly`), and 0 exactly where it
+-- is accepted (`length_iff`).
 use Prim.Native.Nat.{ℕ, ◌*◌}
 use mathlib.Core.Bool.{cond}
 use mathlib.Core.Logic.{◌↔◌}
@@ -9,46 +9,46 @@ use lib.Ieee.{Float}
 use lib.ListN.{length}
 use Rattle.image.specs.Call.{Gray8, number_of}
 use Rattle.image.specs.Conditions.{Exactly}
-use Rattle.image.specs.Refusal.{layoutRefusal, firstRefusal}
-use Rattle.image.proofs.Call.{number-decided}
-use Rattle.image.proofs.Conditions.{exactly, match_none, match-test, match-unless, match-then}
-use Rattle.image.proofs.Conditions.{layout-matches, layout-numbered}
+use Rattle.image.specs.Refusal.{layout_refusal, first_refusal}
+use Rattle.image.proofs.Call.{number_decided}
+use Rattle.image.proofs.Conditions.{exactly, match_none, match_test, match_unless, match_then}
+use Rattle.image.proofs.Conditions.{layout_matches, layout_numbered}
 use Rattle.image.proofs.Refusal.{accepted}
 use Rattle.numbers.proofs.Test.{ltb_iff}
-use Rattle.raster.specs.Direction.{fromAngle, angleRefusal}
+use Rattle.raster.specs.Direction.{from_angle, angle_refusal}
 use Rattle.raster.specs.declared.direction.SnappedDirection.{SnappedDirection}
 use Rattle.raster.specs.declared.direction.SnappedDirection.TheVariants.{Found, Nothing}
-use Rattle.raster.proofs.Snapped.{not-found-iff}
-use Rattle.blur.specs.Conditions.{lengthConditions, LengthAccepted}
-use Rattle.blur.specs.Length.{lengthRefusal, lengthDecision, snappedDecision}
-use Rattle.blur.proofs.ScanPlans.{refusal-none, length-laid, enough-lent}
+use Rattle.raster.proofs.Snapped.{not_found_iff}
+use Rattle.blur.specs.Conditions.{length_conditions, LengthAccepted}
+use Rattle.blur.specs.Length.{length_refusal, length_decision, snapped_decision}
+use Rattle.blur.proofs.ScanPlans.{refusal_none, length_laid, enough_lent}
 
 module _ (len w h stride lent : ℕ) where
-  pub length-iff : (lengthRefusal len w h stride lent ≡ 0) ↔ LengthAccepted len w h stride lent
-  length-iff = (
+  pub length_iff : (length_refusal len w h stride lent ≡ 0) ↔ LengthAccepted len w h stride lent
+  length_iff = (
     λ e. record {
-      picture = length-laid len w h stride lent e;
-      records-least = enough-lent len w h stride lent e;
+      picture = length_laid len w h stride lent e;
+      records_least = enough_lent len w h stride lent e;
     },
-    λ a. refusal-none len w h stride lent (accepted a.picture) a.records-least,
+    λ a. refusal_none len w h stride lent (accepted a.picture) a.records_least,
   )
 
 -- 1 to 4, 7, 10
 module _ (src : Gray8) (transitions amplitude lent : ℕ) where
   snapped-number : (s : SnappedDirection)
-      → number_of (snappedDecision src s transitions amplitude lent)
-      ≡ firstRefusal (layoutRefusal (length src.bytes) src.width src.height src.stride)
-      (firstRefusal (angleRefusal s) (cond (ltb lent (src.width * src.height)) 10 0))
-  unfolding lengthDecision
-  snapped-number (Found d) = number-decided _ _
+      → number_of (snapped_decision src s transitions amplitude lent)
+      ≡ first_refusal (layout_refusal (length src.bytes) src.width src.height src.stride)
+      (first_refusal (angle_refusal s) (cond (ltb lent (src.width * src.height)) 10 0))
+  unfolding length_decision
+  snapped-number (Found d) = number_decided _ _
   snapped-number Nothing = refl
 
-  pub length-exactly : (angle : Float)
-      → Exactly (lengthConditions (length src.bytes) src.width src.height src.stride angle lent)
-      (number_of (snappedDecision src (fromAngle angle) transitions amplitude lent))
-  length-exactly angle =
-      exactly (rw (snapped-number (fromAngle angle))
-      (match-then (layout-matches (length src.bytes) src.width src.height src.stride)
-      (layout-numbered (length src.bytes) src.width src.height src.stride)
-      (match-then (match-unless 7 match_none (not-found-iff angle)) (tt, tt)
-      (match-test 10 match_none (ltb_iff lent (src.width * src.height))))))
+  pub length_exactly : (angle : Float)
+      → Exactly (length_conditions (length src.bytes) src.width src.height src.stride angle lent)
+      (number_of (snapped_decision src (from_angle angle) transitions amplitude lent))
+  length_exactly angle =
+      exactly (rw (snapped-number (from_angle angle))
+      (match_then (layout_matches (length src.bytes) src.width src.height src.stride)
+      (layout_numbered (length src.bytes) src.width src.height src.stride)
+      (match_then (match_unless 7 match_none (not_found_iff angle)) (tt, tt)
+      (match_test 10 match_none (ltb_iff lent (src.width * src.height))))))

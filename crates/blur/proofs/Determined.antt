@@ -3,13 +3,13 @@ use Prim.Native.Nat.{ℕ}
 use lib.ListN.{length}
 use Rattle.image.specs.Call.{Gray8}
 use Rattle.image.specs.Determined.{Determines}
-use Rattle.image.proofs.Determined.{outcome-determines, nothing-one}
+use Rattle.image.proofs.Determined.{outcome_determines, nothing_one}
 use Rattle.raster.specs.declared.direction.SnappedDirection.{SnappedDirection}
-use Rattle.blur.specs.Length.{snappedDecision, lengthAnswer, SnappedMeasured}
+use Rattle.blur.specs.Length.{snapped_decision, length_answer, SnappedMeasured}
 
-pub measured-determined : (src : Gray8) (s : SnappedDirection) (transitions amplitude : ℕ)
+pub measured_determined : (src : Gray8) (s : SnappedDirection) (transitions amplitude : ℕ)
     → Determines {D = Unit {0}} length
     (λ swings swings' _ answer. SnappedMeasured src s transitions amplitude swings swings' answer)
-measured-determined src s transitions amplitude =
-    outcome-determines length (snappedDecision src s transitions amplitude) lengthAnswer (λ _ _ _. Unit {0}) nothing-one
+measured_determined src s transitions amplitude =
+    outcome_determines length (snapped_decision src s transitions amplitude) length_answer (λ _ _ _. Unit {0}) nothing_one
     tt

@@ -19,7 +19,7 @@ use lib.Ieee.Bits.{of_bits-to_bits}
 use Rattle.blur.specs.Median.{sort}
 use Rattle.walks.specs.Each.{Each}
 use Rattle.blur.specs.Select.{Positive}
-use Rattle.blur.proofs.Sorting.{map-sort}
+use Rattle.blur.proofs.Sorting.{map_sort}
 
 -- ---- the pattern of a magnitude of n smallest units, at p binary digits
 abbrev field : ℕ → ℕ → ℕ
@@ -38,8 +38,8 @@ leading p m P h =
     (subst (λ (z : ℕ). z ≤ m) (pow-add 2 (p - 1) (field p m))
     (size_reaches m (p - 1 + field p m) (omega arith)))
 
-two-hids : (p : ℕ) → 0 < p → 2 ^ p ≡ 2 ^ (p - 1) + 2 ^ (p - 1)
-two-hids p P = ap (2 ^◌) (back p P) ∙ pow-add 2 (p - 1) 1 ∙ double (2 ^ (p - 1))
+two_hids : (p : ℕ) → 0 < p → 2 ^ p ≡ 2 ^ (p - 1) + 2 ^ (p - 1)
+two_hids p P = ap (2 ^◌) (back p P) ∙ pow-add 2 (p - 1) 1 ∙ double (2 ^ (p - 1))
   where
     back : (q : ℕ) → 0 < q → q ≡ q - 1 + 1
     back q h = omega arith
@@ -47,8 +47,8 @@ two-hids p P = ap (2 ^◌) (back p P) ∙ pow-add 2 (p - 1) 1 ∙ double (2 ^ (p
     double : (x : ℕ) → x * 2 ^ 1 ≡ x + x
     double x = omega arith
 
-pattern-mono : (p n m : ℕ) → 0 < p → n ≤ m → pattern p n ≤ pattern p m
-pattern-mono p n m P h =
+pattern_mono : (p n m : ℕ) → 0 < p → n ≤ m → pattern p n ≤ pattern p m
+pattern_mono p n m P h =
     go (ltb (field p n) (field p m)) (ltb→lt (field p n) (field p m)) (nltb→le (field p n) (field p m))
   where
     go : (b : Bool) → (T b → field p n < field p m) → (T (not b) → field p m ≤ field p n) → pattern p n ≤ pattern p m
@@ -57,7 +57,7 @@ pattern-mono p n m P h =
           arith,
           kept-lt p n,
           leading p m P (omega (arith, f tt)),
-          two-hids p P,
+          two_hids p P,
           mul-le-mul_right (2 ^ (p - 1))
               (f tt),
           suc-mul (field p n) (2 ^ (p - 1)),
@@ -75,21 +75,21 @@ to_bits_is f (fin true m e) p = absurd p
 to_bits_is f (fin false m e) p =
     ap (◌+ (m * up e * 2 ^ low f / down e) / 2 ^ field (prec f) (m * up e * 2 ^ low f / down e)) (zero-add _)
 
-prec-pos : (f : Format) → 0 < prec f
-prec-pos binary32 = lit< tt
-prec-pos binary64 = lit< tt
+prec_pos : (f : Format) → 0 < prec f
+prec_pos binary32 = lit< tt
+prec_pos binary64 = lit< tt
 
 pub bits_mono : (f : Format) (x y : Float) → T (positive x) → T (positive y) → T (le x y) → to_bits f x ≤ to_bits f y
 bits_mono f x y p q h =
     rw (to_bits_is f x p, to_bits_is f y q)
-    (pattern-mono (prec f) (num x * 2 ^ low f / den x) (num y * 2 ^ low f / den y) (prec-pos f)
+    (pattern_mono (prec f) (num x * 2 ^ low f / den x) (num y * 2 ^ low f / den y) (prec_pos f)
     (div_mono (num x * 2 ^ low f) (den x) (num y * 2 ^ low f) (den y) (den_pos x) (den_pos y)
     (le_trans (le_of_eq (mul_right_comm (num x) (2 ^ low f) (den y)))
     (le_trans (mul-le-mul_right (2 ^ low f) (le→cross x y p q h))
     (le_of_eq (mul_right_comm (num y) (den x) (2 ^ low f)))))))
 
-bits-injective : (f : Format) (x y : Float) → T (fits f x) → T (fits f y) → to_bits f x ≡ to_bits f y → x ≡ y
-bits-injective f x y p q e = sym (of_bits-to_bits f x p) ∙ ap (of_bits f) e ∙ of_bits-to_bits f y q
+bits_injective : (f : Format) (x y : Float) → T (fits f x) → T (fits f y) → to_bits f x ≡ to_bits f y → x ≡ y
+bits_injective f x y p q e = sym (of_bits-to_bits f x p) ∙ ap (of_bits f) e ∙ of_bits-to_bits f y q
 
 total : (x y : Float) → T (positive x) → T (positive y) → T (not (le x y)) → T (le y x)
 total x y p q h =
@@ -102,8 +102,8 @@ total x y p q h =
     go true f g = f tt
     go false f g = absurd (T_not (le x y) h (cross→le x y p q (le_of_lt (g tt))))
 
-pub le-is-bits : (f : Format) (x y : Float) → Positive f x → Positive f y → le x y ≡ leb (to_bits f x) (to_bits f y)
-le-is-bits f x y p q = go (le x y) (bits_mono f x y p.above q.above) (total x y p.above q.above) refl
+pub le_is_bits : (f : Format) (x y : Float) → Positive f x → Positive f y → le x y ≡ leb (to_bits f x) (to_bits f y)
+le_is_bits f x y p q = go (le x y) (bits_mono f x y p.above q.above) (total x y p.above q.above) refl
   where
     go : (b : Bool) → (T b → to_bits f x ≤ to_bits f y) → (T (not b) → T (le y x)) → le x y ≡ b
         → b ≡ leb (to_bits f x) (to_bits f y)
@@ -116,16 +116,16 @@ le-is-bits f x y p q = go (le x y) (bits_mono f x y p.above q.above) (total x y 
             → to_bits f y < to_bits f x
         strict true u v = u tt
         strict false u v =
-            let s : x ≡ y = bits-injective f x y p.holds q.holds
+            let s : x ≡ y = bits_injective f x y p.holds q.holds
             (le_antisymm (v tt) (bits_mono f y x q.above p.above (k tt))) in
             absurd (subst T e (subst (λ (z : Float). T (le x z)) s (rw (← s) at k tt)))
 
 -- ---- so sorting by the order of doubles and by that of their patterns agree, at every place
-pub sort-bits : (f : Format) (ws : List Float) → Each (Positive f) ws
+pub sort_bits : (f : Format) (ws : List Float) → Each (Positive f) ws
     → map (to_bits f) (sort le ws) ≡ sort leb (map (to_bits f) ws)
-sort-bits f ws e = map-sort (to_bits f) (Positive f) le leb (le-is-bits f) ws e
+sort_bits f ws e = map_sort (to_bits f) (Positive f) le leb (le_is_bits f) ws e
 
 pub bits_at : (f : Format) (ws : List Float) (k : ℕ) (d : Float) → Each (Positive f) ws
     → get_or (sort leb (map (to_bits f) ws)) k (to_bits f d) ≡ to_bits f (get_or (sort le ws) k d)
-bits_at f ws k d e = ap (λ (m : List ℕ). get_or m k (to_bits f d)) (sym (sort-bits f ws e))
+bits_at f ws k d e = ap (λ (m : List ℕ). get_or m k (to_bits f d)) (sym (sort_bits f ws e))
     ∙ get_or-map (to_bits f) (sort le ws) k d

@@ -6,76 +6,76 @@ use mathlib.Core.List.{List, [], ◌∷◌, ◌++◌}
 use Prim.Native.Nat.{ℕ}
 use lib.Ieee.{binary64, of_bits, of_int, add, sub, mul, div, rem, le, lt, eq}
 use Rattle.image.specs.Call.{Decision, accepts, refuses, gray8}
-use Rattle.image.specs.Refusal.{layoutRefusal}
-use Rattle.raster.specs.Direction.{fromAngle}
+use Rattle.image.specs.Refusal.{layout_refusal}
+use Rattle.raster.specs.Direction.{from_angle}
 use Rattle.raster.specs.declared.direction.RasterDirection4.TheVariants.{Horizontal}
-use Rattle.raster.specs.Lines.{startCol, startRow}
+use Rattle.raster.specs.Lines.{start_col, start_row}
 use Rattle.blur.specs.declared.length.LineLength.{LineLength}
 use Rattle.blur.specs.declared.length.LineLength.TheVariants.{Found, Nothing}
-use Rattle.swings.specs.Rise.{levelOf, crossedAt, placeAt, crossing_of, riseBetween}
-use Rattle.swings.specs.Swings.{swingsFrom}
-use Rattle.blur.specs.Length.{lengthDecision, snappedDecision}
+use Rattle.swings.specs.Rise.{level_of, crossed_at, place_at, crossing_of, rise_between}
+use Rattle.swings.specs.Swings.{swings_from}
+use Rattle.blur.specs.Length.{length_decision, snapped_decision}
 
 ramp : List ℕ
 ramp = 0 ∷ 0 ∷ 0 ∷ 50 ∷ 100 ∷ 150 ∷ 200 ∷ 250 ∷ 250 ∷ 250 ∷ []
 
 -- along rows 10 wide, with the default least swing
 unfoldable decision : ℕ → ℕ → ℕ → Decision LineLength
-unfolding lengthDecision ramp
-decision rows minimum lent = lengthDecision (gray8 (ramp ++ (ramp ++ ramp)) 10 rows 10) Horizontal minimum 24 lent
+unfolding length_decision ramp
+decision rows minimum lent = length_decision (gray8 (ramp ++ (ramp ++ ramp)) 10 rows 10) Horizontal minimum 24 lent
 
-minimum-three : decision 3 3 30 ≡ accepts (Found (of_bits binary64 0x4014_0000_0000_0000))
-unfolding decision ramp layoutRefusal startCol startRow swingsFrom levelOf crossedAt placeAt crossing_of riseBetween
+minimum_three : decision 3 3 30 ≡ accepts (Found (of_bits binary64 0x4014_0000_0000_0000))
+unfolding decision ramp layout_refusal start_col start_row swings_from level_of crossed_at place_at crossing_of rise_between
     of_bits of_int add sub mul div le lt eq
-minimum-three = refl
+minimum_three = refl
 
-minimum-four : decision 3 4 30 ≡ accepts Nothing
-unfolding decision ramp layoutRefusal startCol startRow swingsFrom levelOf crossedAt placeAt crossing_of riseBetween
+minimum_four : decision 3 4 30 ≡ accepts Nothing
+unfolding decision ramp layout_refusal start_col start_row swings_from level_of crossed_at place_at crossing_of rise_between
     of_bits of_int add sub mul div le lt eq
-minimum-four = refl
+minimum_four = refl
 
-minimum-none : decision 3 0 30 ≡ accepts Nothing
-unfolding decision ramp layoutRefusal
-minimum-none = refl
+minimum_none : decision 3 0 30 ≡ accepts Nothing
+unfolding decision ramp layout_refusal
+minimum_none = refl
 
-few-records : decision 3 3 29 ≡ refuses 10
-unfolding decision ramp layoutRefusal
-few-records = refl
+few_records : decision 3 3 29 ≡ refuses 10
+unfolding decision ramp layout_refusal
+few_records = refl
 
-short-slice : decision 4 3 40 ≡ refuses 4
-unfolding decision ramp layoutRefusal
-short-slice = refl
+short_slice : decision 4 3 40 ≡ refuses 4
+unfolding decision ramp layout_refusal
+short_slice = refl
 
 -- ---- by an angle: a picture of 2 by 2, by the bits of the angle, its bytes, and the records
 
 unfoldable small : ℕ → List ℕ → ℕ → Decision LineLength
-unfolding lengthDecision
-small angle bytes lent = snappedDecision (gray8 bytes 2 2 2) (fromAngle (of_bits binary64 angle)) 8 24 lent
+unfolding length_decision
+small angle bytes lent = snapped_decision (gray8 bytes 2 2 2) (from_angle (of_bits binary64 angle)) 8 24 lent
 
 four_bytes : List ℕ
 four_bytes = 0 ∷ 0 ∷ 0 ∷ 0 ∷ []
 
-along-rows : small 0 four_bytes 4 ≡ accepts Nothing
-unfolding small four_bytes fromAngle of_bits mul rem lt div layoutRefusal
-along-rows = refl
+along_rows : small 0 four_bytes 4 ≡ accepts Nothing
+unfolding small four_bytes from_angle of_bits mul rem lt div layout_refusal
+along_rows = refl
 
-not-a-number : small 0x7ff8_0000_0000_0000 four_bytes 4 ≡ refuses 7
-unfolding small four_bytes fromAngle of_bits mul layoutRefusal
-not-a-number = refl
+not_a_number : small 0x7ff8_0000_0000_0000 four_bytes 4 ≡ refuses 7
+unfolding small four_bytes from_angle of_bits mul layout_refusal
+not_a_number = refl
 
-seven-before-ten : small 0x7ff8_0000_0000_0000 four_bytes 0 ≡ refuses 7
-unfolding small four_bytes fromAngle of_bits mul layoutRefusal
-seven-before-ten = refl
+seven_before_ten : small 0x7ff8_0000_0000_0000 four_bytes 0 ≡ refuses 7
+unfolding small four_bytes from_angle of_bits mul layout_refusal
+seven_before_ten = refl
 
-four-before-seven : small 0x7ff8_0000_0000_0000 [] 0 ≡ refuses 4
-unfolding small fromAngle of_bits mul layoutRefusal
-four-before-seven = refl
+four_before_seven : small 0x7ff8_0000_0000_0000 [] 0 ≡ refuses 4
+unfolding small from_angle of_bits mul layout_refusal
+four_before_seven = refl
 
 -- the last angle with a direction, and the next double
-last-angle : small 0x7f91_df46_a252_9d38 four_bytes 4 ≡ accepts Nothing
-unfolding small four_bytes fromAngle of_bits mul rem lt div layoutRefusal
-last-angle = refl
+last_angle : small 0x7f91_df46_a252_9d38 four_bytes 4 ≡ accepts Nothing
+unfolding small four_bytes from_angle of_bits mul rem lt div layout_refusal
+last_angle = refl
 
-next-angle : small 0x7f91_df46_a252_9d39 four_bytes 4 ≡ refuses 7
-unfolding small four_bytes fromAngle of_bits mul layoutRefusal
-next-angle = refl
+next_angle : small 0x7f91_df46_a252_9d39 four_bytes 4 ≡ refuses 7
+unfolding small four_bytes from_angle of_bits mul layout_refusal
+next_angle = refl

@@ -16,10 +16,10 @@ abbrev pub along : List (Argument 2)
 along = had (shared 0 tt u8) ∷ number ∷ number ∷ number ∷ made direction ∷ number ∷ made (uint w8) ∷ had (lent 1 tt
     S.the_row) ∷ []
 
-abbrev pub with-config : List (Argument 2)
-with-config = had (shared 0 tt u8) ∷ number ∷ number ∷ number ∷ made (double binary64) ∷ made config ∷ had (lent 1 tt
+abbrev pub with_config : List (Argument 2)
+with_config = had (shared 0 tt u8) ∷ number ∷ number ∷ number ∷ made (double binary64) ∷ made config ∷ had (lent 1 tt
     S.the_row) ∷ []
 
-abbrev pub with-defaults : List (Argument 2)
-with-defaults = had (shared 0 tt u8) ∷ number ∷ number ∷ number ∷ made (double binary64) ∷ had (lent 1 tt S.the_row)
+abbrev pub with_defaults : List (Argument 2)
+with_defaults = had (shared 0 tt u8) ∷ number ∷ number ∷ number ∷ made (double binary64) ∷ had (lent 1 tt S.the_row)
     ∷ []

@@ -17,35 +17,35 @@ use Rattle.swings.specs.declared.Swing.{Swing}
 use Rattle.blur.specs.declared.select.Pass.{Pass}
 use Rattle.blur.specs.Median.{stays, kept}
 use Rattle.walks.specs.Each.{Each}
-use Rattle.blur.specs.Select.{high, counted, passed, tallied, passAll, tallyAll, Positive, Widths}
+use Rattle.blur.specs.Select.{high, counted, passed, tallied, pass_all, tally_all, Positive, Widths}
 use Rattle.blur.proofs.Place.{bit, count}
 use Rattle.blur.proofs.Radix.{having}
 
 abbrev pub keys : ℤ → List Swing → List ℕ
 keys top l = map (to_bits binary64) (kept top l)
 
-pub kept-each : (P : Float → Type 0) (top : ℤ) (l : List Swing) → Each (λ (s : Swing). P s.width) l
+pub kept_each : (P : Float → Type 0) (top : ℤ) (l : List Swing) → Each (λ (s : Swing). P s.width) l
     → Each P (kept top l)
-kept-each P top [] e = tt
-kept-each P top (s ∷ l) e = go (stays top s) (kept-each P top l e.1)
+kept_each P top [] e = tt
+kept_each P top (s ∷ l) e = go (stays top s) (kept_each P top l e.1)
   where
     go : (b : Bool) → Each P (kept top l) → Each P (cond b (s.width ∷ kept top l) (kept top l))
     go true r = (e.0, r)
     go false r = r
 
-bits-lt : (ws : List Float) → Each (Positive binary64) ws → Each (◌< 2 ^ 64) (map (to_bits binary64) ws)
-bits-lt [] e = tt
-bits-lt (x ∷ ws) e = (to_bits-lt binary64 x e.0.holds, bits-lt ws e.1)
+bits_lt : (ws : List Float) → Each (Positive binary64) ws → Each (◌< 2 ^ 64) (map (to_bits binary64) ws)
+bits_lt [] e = tt
+bits_lt (x ∷ ws) e = (to_bits-lt binary64 x e.0.holds, bits_lt ws e.1)
 
-pub keys-lt : (top : ℤ) (l : List Swing) → Widths l → Each (◌< 2 ^ 64) (keys top l)
-keys-lt top l e = bits-lt (kept top l) (kept-each (Positive binary64) top l e)
+pub keys_lt : (top : ℤ) (l : List Swing) → Widths l → Each (◌< 2 ^ 64) (keys top l)
+keys_lt top l e = bits_lt (kept top l) (kept_each (Positive binary64) top l e)
 
-pub length-keys : (top : ℤ) (l : List Swing) → length (keys top l) ≡ length (kept top l)
-length-keys top l = length-map (kept top l) (to_bits binary64)
+pub length_keys : (top : ℤ) (l : List Swing) → length (keys top l) ≡ length (kept top l)
+length_keys top l = length-map (kept top l) (to_bits binary64)
 
-pub length-kept : (top : ℤ) (l : List Swing) → length (kept top l) ≤ length l
-length-kept top [] = omega arith
-length-kept top (s ∷ l) = go (stays top s) (length-kept top l)
+pub length_kept : (top : ℤ) (l : List Swing) → length (kept top l) ≤ length l
+length_kept top [] = omega arith
+length_kept top (s ∷ l) = go (stays top s) (length_kept top l)
   where
     go : (b : Bool) → length (kept top l) ≤ length l
         → length (cond b (s.width ∷ kept top l) (kept top l)) ≤ suc (length l)
@@ -53,8 +53,8 @@ length-kept top (s ∷ l) = go (stays top s) (length-kept top l)
     go false h = omega arith
 
 -- ---- the state: only its count changes
-abbrev pub withCount : Pass → ℕ → Pass
-withCount a n = record {
+abbrev pub with_count : Pass → ℕ → Pass
+with_count a n = record {
   left = a.left;
   total = a.total;
   reach = a.reach;
@@ -69,41 +69,41 @@ withCount a n = record {
   count = n;
 }
 
-passed_is : (s : Swing) (a : Pass) (n : ℕ) → passed s (withCount a n) ≡ withCount a (n + bit (counted s a))
+passed_is : (s : Swing) (a : Pass) (n : ℕ) → passed s (with_count a n) ≡ with_count a (n + bit (counted s a))
 passed_is s a n = go (counted s a)
   where
-    go : (b : Bool) → cond b (withCount a (n + 1)) (withCount a n) ≡ withCount a (n + bit b)
+    go : (b : Bool) → cond b (with_count a (n + 1)) (with_count a n) ≡ with_count a (n + bit b)
     go true = refl
-    go false = ap (withCount a) (sym (add-zero n))
+    go false = ap (with_count a) (sym (add-zero n))
 
-passAll-from : (l : List Swing) (a : Pass) (n : ℕ)
-    → passAll l (withCount a n) ≡ withCount a (n + count (λ s. counted s a) l)
-passAll-from [] a n = ap (withCount a) (sym (add-zero n))
-passAll-from (s ∷ l) a n =
-    ap (passAll l) (passed_is s a n) ∙ passAll-from l a (n + bit (counted s a))
-    ∙ ap (withCount a) (add_assoc n (bit (counted s a)) (count (λ t. counted t a) l))
+pass_all_from : (l : List Swing) (a : Pass) (n : ℕ)
+    → pass_all l (with_count a n) ≡ with_count a (n + count (λ s. counted s a) l)
+pass_all_from [] a n = ap (with_count a) (sym (add-zero n))
+pass_all_from (s ∷ l) a n =
+    ap (pass_all l) (passed_is s a n) ∙ pass_all_from l a (n + bit (counted s a))
+    ∙ ap (with_count a) (add_assoc n (bit (counted s a)) (count (λ t. counted t a) l))
 
-pub passAll-is : (l : List Swing) (a : Pass) → passAll l a ≡ withCount a (a.count + count (λ s. counted s a) l)
-passAll-is l a = passAll-from l a a.count
+pub pass_all_is : (l : List Swing) (a : Pass) → pass_all l a ≡ with_count a (a.count + count (λ s. counted s a) l)
+pass_all_is l a = pass_all_from l a a.count
 
 -- ---- the counts
-pub length-tallied : (s : Swing) (a : Pass) (cs : List ℕ) → length (tallied s a cs) ≡ length cs
-length-tallied s a cs = go (counted s a)
+pub length_tallied : (s : Swing) (a : Pass) (cs : List ℕ) → length (tallied s a cs) ≡ length cs
+length_tallied s a cs = go (counted s a)
   where
     go : (b : Bool) → length (cond b (set cs (high s a % 8192) (get_or cs (high s a % 8192) 0 + 1)) cs) ≡ length cs
     go true = length-set cs (high s a % 8192) (get_or cs (high s a % 8192) 0 + 1)
     go false = refl
 
-pub length-tallyAll : (l : List Swing) (a : Pass) (cs : List ℕ) → length (tallyAll l a cs) ≡ length cs
-length-tallyAll [] a cs = refl
-length-tallyAll (s ∷ l) a cs = length-tallyAll l (passed s a) (tallied s a cs) ∙ length-tallied s a cs
+pub length_tally_all : (l : List Swing) (a : Pass) (cs : List ℕ) → length (tally_all l a cs) ≡ length cs
+length_tally_all [] a cs = refl
+length_tally_all (s ∷ l) a cs = length_tally_all l (passed s a) (tallied s a cs) ∙ length_tallied s a cs
 
 abbrev here : Swing → Pass → ℕ → Bool
 here s a e = counted s a && eqb (high s a % 8192) e
 
-getD-tallied : (s : Swing) (a : Pass) (cs : List ℕ) (e : ℕ) → length cs ≡ 8192
+get_or_tallied : (s : Swing) (a : Pass) (cs : List ℕ) (e : ℕ) → length cs ≡ 8192
     → get_or (tallied s a cs) e 0 ≡ get_or cs e 0 + bit (here s a e)
-getD-tallied s a cs e n = go (counted s a)
+get_or_tallied s a cs e n = go (counted s a)
   where
     d : ℕ
     d = high s a % 8192
@@ -118,13 +118,13 @@ getD-tallied s a cs e n = go (counted s a)
     go true = at (eqb d e) refl
     go false = sym (add-zero (get_or cs e 0))
 
-tallyAll-from : (l : List Swing) (a : Pass) (n : ℕ) (cs : List ℕ) (e : ℕ) → length cs ≡ 8192
-    → get_or (tallyAll l (withCount a n) cs) e 0 ≡ get_or cs e 0 + count (λ s. here s a e) l
-tallyAll-from [] a n cs e h = sym (add-zero (get_or cs e 0))
-tallyAll-from (s ∷ l) a n cs e h =
-    ap (λ (b : Pass). get_or (tallyAll l b (tallied s a cs)) e 0) (passed_is s a n)
-    ∙ tallyAll-from l a (n + bit (counted s a)) (tallied s a cs) e (length-tallied s a cs ∙ h)
-    ∙ ap (◌+ count (λ t. here t a e) l) (getD-tallied s a cs e h)
+tally_all_from : (l : List Swing) (a : Pass) (n : ℕ) (cs : List ℕ) (e : ℕ) → length cs ≡ 8192
+    → get_or (tally_all l (with_count a n) cs) e 0 ≡ get_or cs e 0 + count (λ s. here s a e) l
+tally_all_from [] a n cs e h = sym (add-zero (get_or cs e 0))
+tally_all_from (s ∷ l) a n cs e h =
+    ap (λ (b : Pass). get_or (tally_all l b (tallied s a cs)) e 0) (passed_is s a n)
+    ∙ tally_all_from l a (n + bit (counted s a)) (tallied s a cs) e (length_tallied s a cs ∙ h)
+    ∙ ap (◌+ count (λ t. here t a e) l) (get_or_tallied s a cs e h)
     ∙ add_assoc (get_or cs e 0) (bit (here s a e)) (count (λ t. here t a e) l)
 
 -- ---- records that stay, and keys
@@ -132,10 +132,10 @@ pub count_same : {A : Type 0} (p q : A → Bool) → ((x : A) → p x ≡ q x) �
 count_same p q e [] = refl
 count_same p q e (x ∷ l) = rw (e x) (ap (bit (q x) +◌) (count_same p q e l))
 
-pub count-keys : (top : ℤ) (p : ℕ → Bool) (l : List Swing)
+pub count_keys : (top : ℤ) (p : ℕ → Bool) (l : List Swing)
     → count (λ s. stays top s && p (to_bits binary64 s.width)) l ≡ count p (keys top l)
-count-keys top p [] = refl
-count-keys top p (s ∷ l) = go (stays top s) (count-keys top p l)
+count_keys top p [] = refl
+count_keys top p (s ∷ l) = go (stays top s) (count_keys top p l)
   where
     go : (b : Bool) → count (λ t. stays top t && p (to_bits binary64 t.width)) l ≡ count p (keys top l)
         → bit (b && p (to_bits binary64 s.width)) + count (λ t. stays top t && p (to_bits binary64 t.width))
@@ -143,10 +143,10 @@ count-keys top p (s ∷ l) = go (stays top s) (count-keys top p l)
     go true e = ap (bit (p (to_bits binary64 s.width)) +◌) e
     go false e = omega (arith, e)
 
-two-tests : (b : Bool) (h p e : ℕ) → e < 8192
+two_tests : (b : Bool) (h p e : ℕ) → e < 8192
     → (b && eqb (h / 8192) p && eqb (h % 8192) e) ≡ (b && eqb h (p * 8192 + e))
-two-tests false h p e k = refl
-two-tests true h p e k = go (eqb h (p * 8192 + e)) refl
+two_tests false h p e k = refl
+two_tests true h p e k = go (eqb h (p * 8192 + e)) refl
   where
     go : (c : Bool) → eqb h (p * 8192 + e) ≡ c → (eqb (h / 8192) p && eqb (h % 8192) e) ≡ c
     go true q =
@@ -159,16 +159,16 @@ two-tests true h p e k = go (eqb h (p * 8192 + e)) refl
         split false i = refl
 
 -- ---- a pass, whole
-pub tallyAll-is : (l : List Swing) (a : Pass) (cs : List ℕ) (e : ℕ) → length cs ≡ 8192 → e < 8192
-    → get_or (tallyAll l a cs) e 0 ≡ get_or cs e 0 + having (a.prefix * 8192 + e) (2 ^ a.shift) (keys a.strongest l)
-tallyAll-is l a cs e n h =
-    tallyAll-from l a a.count cs e n
+pub tally_all_is : (l : List Swing) (a : Pass) (cs : List ℕ) (e : ℕ) → length cs ≡ 8192 → e < 8192
+    → get_or (tally_all l a cs) e 0 ≡ get_or cs e 0 + having (a.prefix * 8192 + e) (2 ^ a.shift) (keys a.strongest l)
+tally_all_is l a cs e n h =
+    tally_all_from l a a.count cs e n
     ∙ ap (get_or cs e 0 +◌)
     (count_same (λ s. here s a e) (λ s. stays a.strongest s && eqb (high s a) (a.prefix * 8192 + e))
-    (λ s. two-tests (stays a.strongest s) (high s a) a.prefix e h) l
-    ∙ count-keys a.strongest (λ y. eqb (y / 2 ^ a.shift) (a.prefix * 8192 + e)) l)
+    (λ s. two_tests (stays a.strongest s) (high s a) a.prefix e h) l
+    ∙ count_keys a.strongest (λ y. eqb (y / 2 ^ a.shift) (a.prefix * 8192 + e)) l)
 
-pub passAll-count : (l : List Swing) (a : Pass)
-    → (passAll l a).count ≡ a.count + count (λ y. eqb (y / 2 ^ a.shift / 8192) a.prefix) (keys a.strongest l)
-passAll-count l a = ap (λ (b : Pass). b.count) (passAll-is l a)
-    ∙ ap (a.count +◌) (count-keys a.strongest (λ y. eqb (y / 2 ^ a.shift / 8192) a.prefix) l)
+pub pass_all_count : (l : List Swing) (a : Pass)
+    → (pass_all l a).count ≡ a.count + count (λ y. eqb (y / 2 ^ a.shift / 8192) a.prefix) (keys a.strongest l)
+pass_all_count l a = ap (λ (b : Pass). b.count) (pass_all_is l a)
+    ∙ ap (a.count +◌) (count_keys a.strongest (λ y. eqb (y / 2 ^ a.shift / 8192) a.prefix) l)

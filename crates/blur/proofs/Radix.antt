@@ -10,17 +10,17 @@ use lib.Dec.{T, ltb, eqb, ltb→lt, nltb→le}
 use lib.ListN.{length, get_or}
 use borrow.Author.Tests.{lt-ltb, le-ltb, eq-eqb, ne_eqb, ltb-true, ltb-false}
 use Rattle.walks.specs.Each.{Each}
-use Rattle.blur.specs.Select.{pickFrom}
+use Rattle.blur.specs.Select.{pick_from}
 use Rattle.walks.proofs.Each.{each_map}
-use Rattle.blur.proofs.Place.{bit, count, under, At, under-mono, under_none, count-le}
+use Rattle.blur.proofs.Place.{bit, count, under, At, under_mono, under_none, count_le}
 
 -- how many keys have the part q above the unit u
 abbrev pub having : ℕ → ℕ → List ℕ → ℕ
 having q u l = count (λ y. eqb (y / u) q) l
 
 -- ---- a part is the difference of two counts
-one-part : (y q u : ℕ) → 0 < u → bit (ltb y (suc q * u)) ≡ bit (ltb y (q * u)) + bit (eqb (y / u) q)
-one-part y q u U = go (ltb (y / u) q) (ltb q (y / u)) (ltb→lt (y / u) q) (nltb→le (y / u) q) (ltb→lt q (y / u))
+one_part : (y q u : ℕ) → 0 < u → bit (ltb y (suc q * u)) ≡ bit (ltb y (q * u)) + bit (eqb (y / u) q)
+one_part y q u U = go (ltb (y / u) q) (ltb q (y / u)) (ltb→lt (y / u) q) (nltb→le (y / u) q) (ltb→lt q (y / u))
     (nltb→le q (y / u))
   where
     go : (a b : Bool) → (T a → y / u < q) → (T (not a) → q ≤ y / u) → (T b → q < y / u) → (T (not b) → y / u ≤ q)
@@ -41,9 +41,9 @@ one-part y q u U = go (ltb (y / u) q) (ltb q (y / u)) (ltb→lt (y / u) q) (nltb
         let k : y < suc q * u = (div-lt_iff_lt-mul U).0 (omega (arith, g' tt)) in
         rw (le-ltb y (q * u) h, lt-ltb y (suc q * u) k, eq-eqb (y / u) q (omega (arith, f' tt, g' tt))) refl
 
-pub under-part : (l : List ℕ) (q u : ℕ) → 0 < u → under (suc q * u) l ≡ under (q * u) l + having q u l
-under-part [] q u U = refl
-under-part (y ∷ l) q u U = omega (arith, one-part y q u U, under-part l q u U)
+pub under_part : (l : List ℕ) (q u : ℕ) → 0 < u → under (suc q * u) l ≡ under (q * u) l + having q u l
+under_part [] q u U = refl
+under_part (y ∷ l) q u U = omega (arith, one_part y q u U, under_part l q u U)
 
 -- ---- the choice
 -- f runs up by the counts; the choice among cs, from the digit d on, is the digit o at which f o ≤ f d + p < f (o + 1)
@@ -53,7 +53,7 @@ record Chose (f : ℕ → ℕ) (d p o r : ℕ) : Type 0 where
 
 choice : (f : ℕ → ℕ) (cs : List ℕ) (d p : ℕ) → ((i : ℕ) → i < length cs → f (suc (d + i)) ≡ f (d + i) + get_or cs i 0)
     → f d + p < f (d + length cs)
-    → Chose f d p (pickFrom cs d p).digit (pickFrom cs d p).place
+    → Chose f d p (pick_from cs d p).digit (pick_from cs d p).place
 choice f [] d p e h = absurd (omega (arith, ap f (add-zero d)))
 choice f (c ∷ cs) d p e h = go (ltb p c) refl (choice f cs (suc d) (p - c) rest)
   where
@@ -71,13 +71,13 @@ choice f (c ∷ cs) d p e h = go (ltb p c) refl (choice f cs (suc d) (p - c) res
 
     go : (b : Bool) → ltb p c ≡ b
         → (f (suc d) + (p - c) < f (suc d + length cs)
-        → Chose f (suc d) (p - c) (pickFrom cs (suc d) (p - c)).digit (pickFrom cs (suc d) (p - c)).place)
-        → Chose f d p (cond b (record { digit = d; place = p }) (pickFrom cs (suc d) (p - c))).digit
-        (cond b (record { digit = d; place = p }) (pickFrom cs (suc d) (p - c))).place
+        → Chose f (suc d) (p - c) (pick_from cs (suc d) (p - c)).digit (pick_from cs (suc d) (p - c)).place)
+        → Chose f d p (cond b (record { digit = d; place = p }) (pick_from cs (suc d) (p - c))).digit
+        (cond b (record { digit = d; place = p }) (pick_from cs (suc d) (p - c))).place
     go true t r = record { reached = refl; within = omega (arith, first, ltb-true p c t) }
     go false t r =
         let b : c ≤ p = ltb-false p c t in
-        later (pickFrom cs (suc d) (p - c)).digit (pickFrom cs (suc d) (p - c)).place b
+        later (pick_from cs (suc d) (p - c)).digit (pick_from cs (suc d) (p - c)).place b
         (r (omega (arith, first, ap f (shift (length cs)), h)))
 
 -- ---- a round: from the digits above the unit u * 8192 to those above u
@@ -89,7 +89,7 @@ pub record Narrowed (k u p r : ℕ) (l : List ℕ) : Type 0 where
 
 pub narrow_step : (k u p r : ℕ) (l cs : List ℕ) → 0 < u → length cs ≡ 8192
     → ((i : ℕ) → i < 8192 → get_or cs i 0 ≡ having (p * 8192 + i) u l) → Narrowed k (8192 * u) p r l
-    → Narrowed k u (p * 8192 + (pickFrom cs 0 r).digit) (pickFrom cs 0 r).place l
+    → Narrowed k u (p * 8192 + (pick_from cs 0 r).digit) (pick_from cs 0 r).place l
 narrow_step k u p r l cs U n e a = made (choice f cs 0 r steps enough)
   where
     f : ℕ → ℕ
@@ -108,11 +108,11 @@ narrow_step k u p r l cs U n e a = made (choice f cs 0 r steps enough)
     steps : (i : ℕ) → i < length cs → f (suc (0 + i)) ≡ f (0 + i) + get_or cs i 0
     steps i h =
         rw (zero-add i)
-        (ap (λ (t : ℕ). under (t * u) l) (add-suc (p * 8192) i) ∙ under-part l (p * 8192 + i) u U
+        (ap (λ (t : ℕ). under (t * u) l) (add-suc (p * 8192) i) ∙ under_part l (p * 8192 + i) u U
         ∙ ap (under ((p * 8192 + i) * u) l +◌) (sym (e i (omega (arith, n)))))
 
-    made : Chose f 0 r (pickFrom cs 0 r).digit (pickFrom cs 0 r).place
-        → Narrowed k u (p * 8192 + (pickFrom cs 0 r).digit) (pickFrom cs 0 r).place l
+    made : Chose f 0 r (pick_from cs 0 r).digit (pick_from cs 0 r).place
+        → Narrowed k u (p * 8192 + (pick_from cs 0 r).digit) (pick_from cs 0 r).place l
     made c =
         record {
           reached = omega (arith, low, a.reached, c.reached);
@@ -123,7 +123,7 @@ narrow_step k u p r l cs U n e a = made (choice f cs 0 r steps enough)
             c.reached,
             c.within,
             ap (λ (t : ℕ). under (t * u) l)
-                (add-suc (p * 8192) (pickFrom cs 0 r).digit),
+                (add-suc (p * 8192) (pick_from cs 0 r).digit),
           );
         }
 
@@ -141,9 +141,9 @@ under_all : (t : ℕ) (l : List ℕ) → Each (◌< t) l → under t l ≡ lengt
 under_all t [] e = refl
 under_all t (y ∷ l) e = rw (lt-ltb y t e.0) (omega (arith, under_all t l e.1))
 
-pub narrowed-start : (k u p : ℕ) (l : List ℕ) → 0 < u → Each (λ y. y / u / 8192 ≡ p) l → k < length l
+pub narrowed_start : (k u p : ℕ) (l : List ℕ) → 0 < u → Each (λ y. y / u / 8192 ≡ p) l → k < length l
     → Narrowed k (8192 * u) p k l
-narrowed-start k u p l U e h =
+narrowed_start k u p l U e h =
     record {
       reached = omega (
         arith,
@@ -164,8 +164,8 @@ narrowed-start k u p l U e h =
     to y q = subst (λ (t : ℕ). y < t) (mul_assoc (suc p) 8192 u) ((div-lt_iff_lt-mul U).0 (omega (arith, q)))
 
 -- what is found is at most a key, so below whatever the keys are below
-pub narrowed-small : (k u p r top : ℕ) (l : List ℕ) → Each (◌< top) l → Narrowed k u p r l → p * u < top
-narrowed-small k u p r top l e a = go (ltb (p * u) top) (ltb→lt (p * u) top) (nltb→le (p * u) top)
+pub narrowed_small : (k u p r top : ℕ) (l : List ℕ) → Each (◌< top) l → Narrowed k u p r l → p * u < top
+narrowed_small k u p r top l e a = go (ltb (p * u) top) (ltb→lt (p * u) top) (nltb→le (p * u) top)
   where
     go : (b : Bool) → (T b → p * u < top) → (T (not b) → top ≤ p * u) → p * u < top
     go true f g = f tt
@@ -175,7 +175,7 @@ narrowed-small k u p r top l e a = go (ltb (p * u) top) (ltb→lt (p * u) top) (
           a.reached,
           a.within,
           under_all top l e,
-          under-mono top (p * u) l (g tt),
-          count-le
+          under_mono top (p * u) l (g tt),
+          count_le
               (λ y. ltb y (suc p * u)) l,
         ))

@@ -20,39 +20,39 @@ use Rattle.blur.specs.declared.select.Pass.{Pass}
 use Rattle.swings.specs.Swings.{strongest}
 use Rattle.blur.specs.Median.{stays, kept}
 use Rattle.walks.specs.Each.{Each}
-use Rattle.blur.specs.Select.{passAll, tallyAll, pickFrom, wanted, reachOf, narrowed, zeros, round, NarrowAsked}
+use Rattle.blur.specs.Select.{pass_all, tally_all, pick_from, wanted, reach_of, narrowed, zeros, round, NarrowAsked}
 use Rattle.blur.specs.Select.{Widths, SelectAsked}
 use Rattle.swings.specs.Scan.{span_of}
 use Rattle.walks.proofs.Each.{each_map}
-use Rattle.blur.proofs.Place.{count, count-le}
-use Rattle.blur.proofs.Spans.{span_fits, span-within}
-use Rattle.blur.proofs.Radix.{having, Narrowed, narrow_step, narrowed-start, narrowed-small}
-use Rattle.blur.proofs.Passes.{keys, keys-lt, length-keys, length-kept, withCount, passAll-is, passAll-count}
-use Rattle.blur.proofs.Passes.{length-tallyAll, tallyAll-is}
+use Rattle.blur.proofs.Place.{count, count_le}
+use Rattle.blur.proofs.Spans.{span_fits, span_within}
+use Rattle.blur.proofs.Radix.{having, Narrowed, narrow_step, narrowed_start, narrowed_small}
+use Rattle.blur.proofs.Passes.{keys, keys_lt, length_keys, length_kept, with_count, pass_all_is, pass_all_count}
+use Rattle.blur.proofs.Passes.{length_tally_all, tally_all_is}
 
 -- ---- a round
-pub length-zeros : length zeros ≡ 8192
+pub length_zeros : length zeros ≡ 8192
 unfolding zeros
-length-zeros = length-replicate {A = ℕ} 8192 0
+length_zeros = length-replicate {A = ℕ} 8192 0
 
-getD-zeros : (e : ℕ) → e < 8192 → get_or zeros e 0 ≡ 0
+get_or_zeros : (e : ℕ) → e < 8192 → get_or zeros e 0 ≡ 0
 unfolding zeros
-getD-zeros e h = get_or-replicate 8192 e 0 0 h
+get_or_zeros e h = get_or-replicate 8192 e 0 0 h
 
 pub cells : (l : List Swing) (a : Pass) (e : ℕ) → e < 8192
-    → get_or (tallyAll l a zeros) e 0 ≡ having (a.prefix * 8192 + e) (2 ^ a.shift) (keys a.strongest l)
+    → get_or (tally_all l a zeros) e 0 ≡ having (a.prefix * 8192 + e) (2 ^ a.shift) (keys a.strongest l)
 cells l a e h =
-    tallyAll-is l a zeros e length-zeros h
-    ∙ ap (◌+ having (a.prefix * 8192 + e) (2 ^ a.shift) (keys a.strongest l)) (getD-zeros e h)
+    tally_all_is l a zeros e length_zeros h
+    ∙ ap (◌+ having (a.prefix * 8192 + e) (2 ^ a.shift) (keys a.strongest l)) (get_or_zeros e h)
     ∙ zero-add _
 
-pub length-cells : (l : List Swing) (a : Pass) → length (tallyAll l a zeros) ≡ 8192
-length-cells l a = length-tallyAll l a zeros ∙ length-zeros
+pub length_cells : (l : List Swing) (a : Pass) → length (tally_all l a zeros) ≡ 8192
+length_cells l a = length_tally_all l a zeros ∙ length_zeros
 
-pick-none : (cs : List ℕ) (d p : ℕ) → ((i : ℕ) → i < length cs → get_or cs i 0 ≡ 0) → (pickFrom cs d p).digit ≡ 0
-pick-none [] d p e = refl
-pick-none (c ∷ cs) d p e =
-    rw (le-ltb p c (omega (arith, e 0 (omega arith)))) (pick-none cs (suc d) (p - c) (λ i h. e (suc i) (omega arith)))
+pick_none : (cs : List ℕ) (d p : ℕ) → ((i : ℕ) → i < length cs → get_or cs i 0 ≡ 0) → (pick_from cs d p).digit ≡ 0
+pick_none [] d p e = refl
+pick_none (c ∷ cs) d p e =
+    rw (le-ltb p c (omega (arith, e 0 (omega arith)))) (pick_none cs (suc d) (p - c) (λ i h. e (suc i) (omega arith)))
 
 -- once a pass has counted the keys: their number, and the digits above the unit u
 pub record State (l : List Swing) (u : ℕ) (a : Pass) : Type 0 where
@@ -67,7 +67,7 @@ pub record Known (l : List Swing) (a : Pass) : Type 0 where
   pub step : a.shift ≡ 13 * a.left - 13
   pub none : a.count ≡ 0
   pub total : a.total ≡ length l
-  pub reach : a.reach ≡ reachOf a.kept a.shift a.low a.high a.total
+  pub reach : a.reach ≡ reach_of a.kept a.shift a.low a.high a.total
   pub small : a.low < 2 ^ 64
   pub within : Each (λ y. (a.low ≤ y) × (y ≤ a.high)) (keys a.strongest l)
   pub room : 0 < a.left → a.prefix * 2 ^ a.shift < 2 ^ 51
@@ -79,17 +79,17 @@ pub pos_of : (n : ℕ) → (n ≡ 0 → ⊥) → 0 < n
 pos_of n k = omega arith
 
 -- ---- the first pass
-each-keys : (top : ℤ) (P : ℕ → Type 0) (l : List Swing) → Each (λ (s : Swing). P (to_bits binary64 s.width)) l
+each_keys : (top : ℤ) (P : ℕ → Type 0) (l : List Swing) → Each (λ (s : Swing). P (to_bits binary64 s.width)) l
     → Each P (keys top l)
-each-keys top P [] e = tt
-each-keys top P (s ∷ l) e = go (stays top s) (each-keys top P l e.1)
+each_keys top P [] e = tt
+each_keys top P (s ∷ l) e = go (stays top s) (each_keys top P l e.1)
   where
     go : (b : Bool) → Each P (keys top l) → Each P (map (to_bits binary64) (cond b (s.width ∷ kept top l) (kept top l)))
     go true r = (e.0, r)
     go false r = r
 
-pub known-first : (l : List Swing) (a : Pass) → SelectAsked l a → Known l a
-known-first l a s = subst (Known l) (sym s.starts) (record {
+pub known_first : (l : List Swing) (a : Pass) → SelectAsked l a → Known l a
+known_first l a s = subst (Known l) (sym s.starts) (record {
   top = refl;
   most = le_refl _;
   step = refl;
@@ -97,19 +97,19 @@ known-first l a s = subst (Known l) (sym s.starts) (record {
   total = refl;
   reach = refl;
   small = to_bits-lt binary64 (span_of l).least (span_fits l s.widths);
-  within = each-keys (strongest l)
+  within = each_keys (strongest l)
       (λ y. (to_bits binary64 (span_of l).least ≤ y) × (y ≤ to_bits binary64 (span_of l).greatest)) l
-      (span-within l s.widths);
+      (span_within l s.widths);
   room = λ _. omega arith;
   fresh = λ _ _. each_map (◌< 2 ^ 64) (λ y. y / 2 ^ 52 / 8192 ≡ 0) (λ y h. omega arith) (keys (strongest l) l)
-      (keys-lt (strongest l) l s.widths);
+      (keys_lt (strongest l) l s.widths);
   later = λ _ h. absurd (omega arith);
   done = λ e. absurd (omega (arith, e));
 })
 
-count-all : (u p : ℕ) (l : List ℕ) → Each (λ y. y / u / 8192 ≡ p) l → count (λ y. eqb (y / u / 8192) p) l ≡ length l
-count-all u p [] e = refl
-count-all u p (y ∷ l) e = rw (eq-eqb (y / u / 8192) p e.0) (omega (arith, count-all u p l e.1))
+count_all : (u p : ℕ) (l : List ℕ) → Each (λ y. y / u / 8192 ≡ p) l → count (λ y. eqb (y / u / 8192) p) l ≡ length l
+count_all u p [] e = refl
+count_all u p (y ∷ l) e = rw (eq-eqb (y / u / 8192) p e.0) (omega (arith, count_all u p l e.1))
 
 each_none : (P : ℕ → Type 0) (l : List ℕ) → length l ≡ 0 → Each P l
 each_none P [] e = tt
@@ -122,13 +122,13 @@ module _ (l : List Swing) (a : Pass) (k : Known l a) (some : 0 < a.left) where
 
   -- the state after a pass that counted n records
   abbrev next : ℕ → List ℕ → Pass
-  next n cs = narrowed (withCount a n) cs
+  next n cs = narrowed (with_count a n) cs
 
   round_is : (m : List Swing)
-      → narrowed (passAll m a) (tallyAll m a zeros) ≡ next (passAll m a).count (tallyAll m a zeros)
+      → narrowed (pass_all m a) (tally_all m a zeros) ≡ next (pass_all m a).count (tally_all m a zeros)
   round_is m =
-      let e = passAll-is m a in
-      ap (λ (b : Pass). narrowed b (tallyAll m a zeros)) (e ∙ ap (withCount a) (sym (ap (λ (b : Pass). b.count) e)))
+      let e = pass_all_is m a in
+      ap (λ (b : Pass). narrowed b (tally_all m a zeros)) (e ∙ ap (with_count a) (sym (ap (λ (b : Pass). b.count) e)))
 
   -- where a digit is left, it lies 13 bits lower
   unit : 0 < a.left - 1 → 2 ^ a.shift ≡ 8192 * 2 ^ (a.shift - 13)
@@ -160,52 +160,52 @@ module _ (l : List Swing) (a : Pass) (k : Known l a) (some : 0 < a.left) where
   -- ---- over all records
   module _ (over : eqb a.reach 0 ≡ false) where
     abbrev cs : List ℕ
-    cs = tallyAll l a zeros
+    cs = tally_all l a zeros
 
     abbrev n : ℕ
-    n = (passAll l a).count
+    n = (pass_all l a).count
 
     -- all are counted in the first pass, and how many there are is kept
     all-counted : cond (eqb a.kept 0) n a.kept ≡ length ks
     all-counted = go (eqb a.kept 0) refl
       where
         go : (b : Bool) → eqb a.kept 0 ≡ b → cond b n a.kept ≡ length ks
-        go true q = passAll-count l a
-            ∙ ap₂ ◌+◌ k.none (count-all (2 ^ a.shift) a.prefix ks (k.fresh some (eqb-true a.kept 0 q)))
+        go true q = pass_all_count l a
+            ∙ ap₂ ◌+◌ k.none (count_all (2 ^ a.shift) a.prefix ks (k.fresh some (eqb-true a.kept 0 q)))
             ∙ zero-add _
         go false q = (k.later some (pos_of a.kept (eqb-false a.kept 0 q))).all
 
     place-wanted : 0 < length ks
-        → Narrowed (length ks / 2) (8192 * 2 ^ a.shift) a.prefix (wanted (withCount a n)) ks
+        → Narrowed (length ks / 2) (8192 * 2 ^ a.shift) a.prefix (wanted (with_count a n)) ks
     place-wanted h = go (eqb a.kept 0) refl all-counted
       where
         go : (b : Bool) → eqb a.kept 0 ≡ b → cond b n a.kept ≡ length ks
             → Narrowed (length ks / 2) (8192 * 2 ^ a.shift) a.prefix (cond b (n / 2) a.place) ks
-        go true q e = rw e (narrowed-start (length ks / 2) (2 ^ a.shift) a.prefix ks (pow_pos a.shift)
+        go true q e = rw e (narrowed_start (length ks / 2) (2 ^ a.shift) a.prefix ks (pow_pos a.shift)
             (k.fresh some (eqb-true a.kept 0 q)) (omega arith))
         go false q e = (k.later some (pos_of a.kept (eqb-false a.kept 0 q))).found h
 
     abbrev digit : ℕ
-    digit = (pickFrom cs 0 (wanted (withCount a n))).digit
+    digit = (pick_from cs 0 (wanted (with_count a n))).digit
 
     prefix-is : (next n cs).prefix ≡ a.prefix * 8192 + digit
     prefix-is = ap (λ (b : Bool). cond b (a.low / 2 ^ a.shift) (a.prefix * 8192 + digit)) over
 
     no_digit : length ks ≡ 0 → digit ≡ 0
-    no_digit h = pick-none cs 0 (wanted (withCount a n)) nothing
+    no_digit h = pick_none cs 0 (wanted (with_count a n)) nothing
       where
         nothing : (i : ℕ) → i < length cs → get_or cs i 0 ≡ 0
         nothing i j =
-            let e : i < 8192 = omega (arith, length-cells l a) in
-            omega (arith, cells l a i e, count-le (λ y. eqb (y / 2 ^ a.shift) (a.prefix * 8192 + i)) ks)
+            let e : i < 8192 = omega (arith, length_cells l a) in
+            omega (arith, cells l a i e, count_le (λ y. eqb (y / 2 ^ a.shift) (a.prefix * 8192 + i)) ks)
 
     state-after : State l (2 ^ a.shift) (next n cs)
     state-after =
         record {
           all = all-counted;
           found = λ h. rw prefix-is
-              (narrow_step (length ks / 2) (2 ^ a.shift) a.prefix (wanted (withCount a n)) ks cs
-              (pow_pos a.shift) (length-cells l a) (cells l a) (place-wanted h));
+              (narrow_step (length ks / 2) (2 ^ a.shift) a.prefix (wanted (with_count a n)) ks cs
+              (pow_pos a.shift) (length_cells l a) (cells l a) (place-wanted h));
         }
 
     room_after : Widths l → 0 < a.left - 1 → (next n cs).prefix * 2 ^ (a.shift - 13) < 2 ^ 51
@@ -220,8 +220,8 @@ module _ (l : List Swing) (a : Pass) (k : Known l a) (some : 0 < a.left) where
             omega (
               arith,
               ap ((next n cs).prefix *◌) (unit more),
-              narrowed-small (length ks / 2) (2 ^ a.shift)
-                  (next n cs).prefix (next n cs).place (2 ^ 64) ks (keys-lt a.strongest l e)
+              narrowed_small (length ks / 2) (2 ^ a.shift)
+                  (next n cs).prefix (next n cs).place (2 ^ 64) ks (keys_lt a.strongest l e)
                   (state-after.found (pos_of (length ks) (eqb-false (length ks) 0 q))),
             )
 
@@ -261,7 +261,7 @@ module _ (l : List Swing) (a : Pass) (k : Known l a) (some : 0 < a.left) where
 
   module _ (none : a.reach ≡ 0) where
     few-keys : length ks ≤ length l
-    few-keys = omega (arith, length-keys a.strongest l, length-kept a.strongest l)
+    few-keys = omega (arith, length_keys a.strongest l, length_kept a.strongest l)
 
     no_keys : a.reach ≡ length l → length ks ≡ 0
     no_keys e = omega (arith, few-keys, none)
@@ -279,7 +279,7 @@ module _ (l : List Swing) (a : Pass) (k : Known l a) (some : 0 < a.left) where
 
     prefix-shared : bare.prefix ≡ a.low / 2 ^ a.shift
     prefix-shared = ap (λ (b : Bool). cond b (a.low / 2 ^ a.shift)
-        (a.prefix * 8192 + (pickFrom zeros 0 (wanted a)).digit)) (eq-eqb a.reach 0 none)
+        (a.prefix * 8192 + (pick_from zeros 0 (wanted a)).digit)) (eq-eqb a.reach 0 none)
 
     kept-none : bare.kept ≡ 0
     kept-none = ap (λ (b : Bool). cond b a.count a.kept) (eq-eqb a.kept 0 no-kept) ∙ k.none
@@ -326,21 +326,21 @@ module _ (l : List Swing) (a : Pass) (k : Known l a) (some : 0 < a.left) where
     where
       go : (b : Bool) → eqb a.reach 0 ≡ b → (a.reach ≡ length l) ⊎ Shared → Known l (round l a)
       go true q s = let z = eqb-true a.reach 0 q in
-          subst (λ (m : ℕ). Known l (narrowed (passAll (take m l) a) (tallyAll (take m l) a zeros))) (sym z)
+          subst (λ (m : ℕ). Known l (narrowed (pass_all (take m l) a) (tally_all (take m l) a zeros))) (sym z)
           (known-none z)
       go false q (inl z) =
-          subst (λ (m : List Swing). Known l (narrowed (passAll m a) (tallyAll m a zeros)))
+          subst (λ (m : List Swing). Known l (narrowed (pass_all m a) (tally_all m a zeros)))
           (sym (ap (λ (m : ℕ). take m l) z ∙ take-length l)) (subst (Known l) (sym (round_is l)) (known_over q e))
       go false q (inr s) = absurd (eqb-false a.reach 0 q s.none)
 
   pub less : (round l a).left < a.left
-  less = omega (arith, ap (λ (b : Pass). b.left) (passAll-is (take a.reach l) a))
+  less = omega (arith, ap (λ (b : Pass). b.left) (pass_all_is (take a.reach l) a))
 
-  pub narrowable : (m : List Swing) → NarrowAsked (passAll m a) (tallyAll m a zeros)
+  pub narrowable : (m : List Swing) → NarrowAsked (pass_all m a) (tally_all m a zeros)
   narrowable m =
-      let e = passAll-is m a in
+      let e = pass_all_is m a in
       record {
-        digits = length-cells m a;
+        digits = length_cells m a;
         room = omega (
           arith,
           ap (λ (b : Pass). b.prefix) e,
@@ -352,8 +352,8 @@ module _ (l : List Swing) (a : Pass) (k : Known l a) (some : 0 < a.left) where
         some = omega (arith, ap (λ (b : Pass). b.left) e);
       }
 
-  pub reach-within : a.reach ≤ a.total
-  reach-within = go reached
+  pub reach_within : a.reach ≤ a.total
+  reach_within = go reached
     where
       go : (a.reach ≡ length l) ⊎ Shared → a.reach ≤ a.total
       go (inl e) = omega (arith, k.total)

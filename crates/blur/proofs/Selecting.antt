@@ -9,10 +9,10 @@ use lib.Ieee.{binary64, of_bits}
 use lib.ListN.{length, take, replicate, length-take, length-replicate}
 use Rattle.walks.proofs.Lists.{take_less}
 use Rattle.swings.specs.declared.Swing.{Swing}
-use Rattle.blur.specs.Select.{passAll, tallyAll, narrowed, zeros, round, PassAsked, Passes, NarrowAsked, Narrows}
+use Rattle.blur.specs.Select.{pass_all, tally_all, narrowed, zeros, round, PassAsked, Passes, NarrowAsked, Narrows}
 use Rattle.blur.specs.Select.{SelectAsked}
 use Rattle.blur.specs.declared.select.Pass.{Pass}
-use Rattle.blur.proofs.Rounds.{Known, known-first, known_next, less, narrowable, reach-within}
+use Rattle.blur.proofs.Rounds.{Known, known_first, known_next, less, narrowable, reach_within}
 use Rattle.blur.proofs.Selected.{countables}
 
 -- a state and the counts, after a pass over l and after the choice of a digit
@@ -20,21 +20,21 @@ abbrev pub Both : Type 0
 Both = Pass × List ℕ
 
 abbrev pub counted : List Swing → Both → Both
-counted l t = (passAll l t.0, tallyAll l t.0 t.1)
+counted l t = (pass_all l t.0, tally_all l t.0 t.1)
 
 abbrev pub onward : Both → Both
 onward t = (narrowed t.0 t.1, zeros)
 
-passes-is : (l : List Swing) (t u : Both) → Passes l t.0 t.1 u.1 u.0 → u ≡ counted l t
-passes-is l t u e = λ i. (e.state i, e.counts i)
+passes_is : (l : List Swing) (t u : Both) → Passes l t.0 t.1 u.1 u.0 → u ≡ counted l t
+passes_is l t u e = λ i. (e.state i, e.counts i)
 
-narrows-is : (t u : Both) → Narrows t.0 t.1 u.1 u.0 → u ≡ onward t
-narrows-is t u e = λ i. (e.state i, e.counts i)
+narrows_is : (t u : Both) → Narrows t.0 t.1 u.1 u.0 → u ≡ onward t
+narrows_is t u e = λ i. (e.state i, e.counts i)
 
 -- the counts before the first pass
-pub no-counts : replicate 8192 0 ≡ zeros
+pub no_counts : replicate 8192 0 ≡ zeros
 unfolding zeros
-no-counts = refl
+no_counts = refl
 
 module _ (Real : Pass → Type 0) (xs : List Swing) (p : Pass) where
   abbrev pub swings : List Swing
@@ -52,8 +52,8 @@ module _ (Real : Pass → Type 0) (xs : List Swing) (p : Pass) where
     acc = (p, replicate 8192 0);
     real = is;
     sized = length-replicate {A = ℕ} 8192 0;
-    clear = no-counts;
-    known = known-first swings p asks;
+    clear = no_counts;
+    known = known_first swings p asks;
   }
 
   module _ (asks : SelectAsked swings p) (t : At) (more : 0 < t.acc.0.left) where
@@ -65,10 +65,10 @@ module _ (Real : Pass → Type 0) (xs : List Swing) (p : Pass) where
     shown = take c.reach xs
 
     within : c.reach ≤ length swings
-    within = omega (arith, reach-within swings c t.known more, t.known.total)
+    within = omega (arith, reach_within swings c t.known more, t.known.total)
 
-    pub shown-within : c.reach ≤ length xs
-    shown-within = omega (arith, within, length-take p.total xs)
+    pub shown_within : c.reach ≤ length xs
+    shown_within = omega (arith, within, length-take p.total xs)
 
     shown-is : take c.reach swings ≡ shown
     shown-is = take_less c.reach p.total xs (omega (arith, within, length-take p.total xs))
@@ -80,16 +80,16 @@ module _ (Real : Pass → Type 0) (xs : List Swing) (p : Pass) where
 
     -- the pass has left u, and the choice of a digit v
     module _ (u : Both) (e : Passes shown c t.acc.1 u.1 u.0) where
-      pub narrowable-after : NarrowAsked u.0 u.1
-      narrowable-after = subst (λ (v : Both). NarrowAsked v.0 v.1) (sym (passes-is shown t.acc u e)) (subst (λ
-          (cs : List ℕ). NarrowAsked (passAll shown c) (tallyAll shown c cs)) (sym t.clear) (narrowable swings c t.known more shown))
+      pub narrowable_after : NarrowAsked u.0 u.1
+      narrowable_after = subst (λ (v : Both). NarrowAsked v.0 v.1) (sym (passes_is shown t.acc u e)) (subst (λ
+          (cs : List ℕ). NarrowAsked (pass_all shown c) (tally_all shown c cs)) (sym t.clear) (narrowable swings c t.known more shown))
 
       module _ (v : Both) (e' : Narrows u.0 u.1 v.1 v.0) where
         pub round_is : v.0 ≡ round swings c
         round_is =
-            ap (λ (z : Both). z.0) (narrows-is u v e' ∙ ap onward (passes-is shown t.acc u e))
-            ∙ ap (λ (cs : List ℕ). narrowed (passAll shown c) (tallyAll shown c cs)) t.clear
-            ∙ ap (λ (l : List Swing). narrowed (passAll l c) (tallyAll l c zeros)) (sym shown-is)
+            ap (λ (z : Both). z.0) (narrows_is u v e' ∙ ap onward (passes_is shown t.acc u e))
+            ∙ ap (λ (cs : List ℕ). narrowed (pass_all shown c) (tally_all shown c cs)) t.clear
+            ∙ ap (λ (l : List Swing). narrowed (pass_all l c) (tally_all l c zeros)) (sym shown-is)
 
         abbrev pub after : Real v.0 → length v.1 ≡ 8192 → At
         after is l = record {
@@ -100,5 +100,5 @@ module _ (Real : Pass → Type 0) (xs : List Swing) (p : Pass) where
           known = subst (Known swings) (sym round_is) (known_next swings c t.known more asks.widths);
         }
 
-        pub less-after : v.0.left < c.left
-        less-after = subst (λ (q : Pass). q.left < c.left) (sym round_is) (less swings c t.known more)
+        pub less_after : v.0.left < c.left
+        less_after = subst (λ (q : Pass). q.left < c.left) (sym round_is) (less swings c t.known more)

@@ -16,14 +16,14 @@ module _ {A : Type 0} (P : A → Type 0) where
   each-pick true l r e f = e
   each-pick false l r e f = f
 
-  pub each-insert : (before : A → A → Bool) (x : A) (l : List A) → P x → Each P l → Each P (insert before x l)
-  each-insert before x [] p e = (p, tt)
-  each-insert before x (y ∷ l) p e =
-      each-pick (before x y) (x ∷ (y ∷ l)) (y ∷ insert before x l) (p, e) (e.0, each-insert before x l p e.1)
+  pub each_insert : (before : A → A → Bool) (x : A) (l : List A) → P x → Each P l → Each P (insert before x l)
+  each_insert before x [] p e = (p, tt)
+  each_insert before x (y ∷ l) p e =
+      each-pick (before x y) (x ∷ (y ∷ l)) (y ∷ insert before x l) (p, e) (e.0, each_insert before x l p e.1)
 
-  pub each-sort : (before : A → A → Bool) (l : List A) → Each P l → Each P (sort before l)
-  each-sort before [] e = tt
-  each-sort before (x ∷ l) e = each-insert before x (sort before l) e.0 (each-sort before l e.1)
+  pub each_sort : (before : A → A → Bool) (l : List A) → Each P l → Each P (sort before l)
+  each_sort before [] e = tt
+  each_sort before (x ∷ l) e = each_insert before x (sort before l) e.0 (each_sort before l e.1)
 
 -- ---- sorting keeps the length
 module _ {A : Type 0} (before : A → A → Bool) where
@@ -36,13 +36,13 @@ module _ {A : Type 0} (before : A → A → Bool) where
       go true e = refl
       go false e = ap suc e
 
-  pub length-sort : (l : List A) → length (sort before l) ≡ length l
-  length-sort [] = refl
-  length-sort (x ∷ l) = length-insert x (sort before l) ∙ ap suc (length-sort l)
+  pub length_sort : (l : List A) → length (sort before l) ≡ length l
+  length_sort [] = refl
+  length_sort (x ∷ l) = length-insert x (sort before l) ∙ ap suc (length_sort l)
 
-pub median-each : (P : Float → Type 0) (ws : List Float) → Each P ws → 0 < length ws → P (median ws)
-median-each P ws e h =
-    each_at P (sort le ws) (length ws / 2) nan (each-sort P le ws e) (omega (arith, length-sort le ws))
+pub median_each : (P : Float → Type 0) (ws : List Float) → Each P ws → 0 < length ws → P (median ws)
+median_each P ws e h =
+    each_at P (sort le ws) (length ws / 2) nan (each_sort P le ws e) (omega (arith, length_sort le ws))
 
 -- ---- a map that respects the order maps the sorted list to the sorted list
 module _ {A B : Type 0} (f : A → B) (P : A → Type 0) (r : A → A → Bool) (q : B → B → Bool)
@@ -58,6 +58,6 @@ module _ {A B : Type 0} (f : A → B) (P : A → Type 0) (r : A → A → Bool) 
       ∙ ap (λ (b : Bool). cond b (f x ∷ (f y ∷ map f l)) (f y ∷ map f (insert r x l))) (same x y p e.0)
       ∙ ap (λ (m : List B). cond (q (f x) (f y)) (f x ∷ (f y ∷ map f l)) (f y ∷ m)) (map-insert x l p e.1)
 
-  pub map-sort : (l : List A) → Each P l → map f (sort r l) ≡ sort q (map f l)
-  map-sort [] e = refl
-  map-sort (x ∷ l) e = map-insert x (sort r l) e.0 (each-sort P r l e.1) ∙ ap (insert q (f x)) (map-sort l e.1)
+  pub map_sort : (l : List A) → Each P l → map f (sort r l) ≡ sort q (map f l)
+  map_sort [] e = refl
+  map_sort (x ∷ l) e = map-insert x (sort r l) e.0 (each_sort P r l e.1) ∙ ap (insert q (f x)) (map_sort l e.1)

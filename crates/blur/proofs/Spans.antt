@@ -10,7 +10,7 @@ use lib.Ieee.Positive.{num, den, positive, cross→le}
 use borrow.Author.Tests.{ltb-false}
 use Rattle.swings.specs.declared.Swing.{Swing}
 use Rattle.swings.specs.declared.scan.Span.{Span}
-use Rattle.swings.specs.Scan.{lesser, greater, widenedBy, spanFrom, span_of}
+use Rattle.swings.specs.Scan.{lesser, greater, widened_by, span_from, span_of}
 use Rattle.walks.specs.Each.{Each}
 use Rattle.blur.specs.Select.{Positive, Widths}
 use Rattle.walks.proofs.Each.{each_map}
@@ -19,26 +19,26 @@ use Rattle.blur.proofs.Keys.{bits_mono}
 abbrev key : Float → ℕ
 key x = to_bits binary64 x
 
-pub positive-number : (x : Float) → T (positive x) → T (not (is_nan x))
+pub positive_number : (x : Float) → T (positive x) → T (not (is_nan x))
 unfolding is_nan
-positive-number nan p = absurd p
-positive-number (inf s) p = absurd p
-positive-number (fin s m e) p = tt
+positive_number nan p = absurd p
+positive_number (inf s) p = absurd p
+positive_number (fin s m e) p = tt
 
 -- ---- the test, as one of keys
-less-le : (x y : Float) → lt x y ≡ true → T (le x y)
+less_le : (x y : Float) → lt x y ≡ true → T (le x y)
 unfolding le
-less-le x y e = rw e tt
+less_le x y e = rw e tt
 
-not-less-cross : (x y : Float) → T (positive x) → T (positive y) → lt x y ≡ false → num y * den x ≤ num x * den y
+not_less_cross : (x y : Float) → T (positive x) → T (positive y) → lt x y ≡ false → num y * den x ≤ num x * den y
 unfolding lt
-not-less-cross nan y p q e = absurd p
-not-less-cross (inf s) y p q e = absurd p
-not-less-cross (fin true m e) y p q h = absurd p
-not-less-cross (fin false m e) nan p q h = absurd q
-not-less-cross (fin false m e) (inf t) p q h = absurd q
-not-less-cross (fin false m e) (fin true n d) p q h = absurd q
-not-less-cross (fin false m e) (fin false n d) p q h = ltb-false _ _ h
+not_less_cross nan y p q e = absurd p
+not_less_cross (inf s) y p q e = absurd p
+not_less_cross (fin true m e) y p q h = absurd p
+not_less_cross (fin false m e) nan p q h = absurd q
+not_less_cross (fin false m e) (inf t) p q h = absurd q
+not_less_cross (fin false m e) (fin true n d) p q h = absurd q
+not_less_cross (fin false m e) (fin false n d) p q h = ltb-false _ _ h
 
 -- a value that lies between two others, by the keys, and is one of them
 record Least (a b c : Float) : Type 0 where
@@ -58,7 +58,7 @@ module _ (a b : Float) (p : Positive binary64 a) (q : Positive binary64 b) where
       go : (t : Bool) → lt b a ≡ t → Least a b (cond t b a)
       go true e = record {
         own = q;
-        first = bits_mono binary64 b a q.above p.above (less-le b a e);
+        first = bits_mono binary64 b a q.above p.above (less_le b a e);
         second =
             le_refl _;
       }
@@ -67,7 +67,7 @@ module _ (a b : Float) (p : Positive binary64 a) (q : Positive binary64 b) where
         first = le_refl _;
         second =
             bits_mono binary64 a b p.above q.above
-            (cross→le a b p.above q.above (not-less-cross b a q.above p.above e));
+            (cross→le a b p.above q.above (not_less_cross b a q.above p.above e));
       }
 
   greater-greatest : Greatest a b (greater a b)
@@ -76,7 +76,7 @@ module _ (a b : Float) (p : Positive binary64 a) (q : Positive binary64 b) where
       go : (t : Bool) → lt a b ≡ t → Greatest a b (cond t b a)
       go true e = record {
         own = q;
-        first = bits_mono binary64 a b p.above q.above (less-le a b e);
+        first = bits_mono binary64 a b p.above q.above (less_le a b e);
         second =
             le_refl _;
       }
@@ -85,7 +85,7 @@ module _ (a b : Float) (p : Positive binary64 a) (q : Positive binary64 b) where
         first = le_refl _;
         second =
             bits_mono binary64 b a q.above p.above
-            (cross→le b a q.above p.above (not-less-cross a b p.above q.above e));
+            (cross→le b a q.above p.above (not_less_cross a b p.above q.above e));
       }
 
 -- ---- the span of a list
@@ -102,12 +102,12 @@ record Spans (from : Span) (l : List Swing) (span : Span) : Type 0 where
   over : Between span from.least from.greatest
   each : Each (λ (s : Swing). Between span s.width s.width) l
 
-spans : (from : Span) (l : List Swing) → Ends from → Widths l → Spans from l (spanFrom from l)
+spans : (from : Span) (l : List Swing) → Ends from → Widths l → Spans from l (span_from from l)
 spans from [] e ws = record { ends = e; over = record { from = le_refl _; to = le_refl _ }; each = tt }
 spans from (s ∷ l) e ws =
     let a = lesser-least from.least s.width e.low ws.0 in
     let b = greater-greatest from.greatest s.width e.high ws.0 in
-    let r = spans (widenedBy from s.width) l (record { low = a.own; high = b.own }) ws.1 in
+    let r = spans (widened_by from s.width) l (record { low = a.own; high = b.own }) ws.1 in
     record {
       ends = r.ends;
       over = record { from = le_trans r.over.from a.first; to = le_trans b.first r.over.to };
@@ -120,14 +120,14 @@ module _ (l : List Swing) (ws : Widths l) where
   whole = spans (span_of []) l
       (record { low = record { above = tt; holds = tt }; high = record { above = tt; holds = tt } }) ws
 
-  pub span-numbers : T (not (is_nan (span_of l).least)) × T (not (is_nan (span_of l).greatest))
-  span-numbers = (positive-number _ whole.ends.low.above, positive-number _ whole.ends.high.above)
+  pub span_numbers : T (not (is_nan (span_of l).least)) × T (not (is_nan (span_of l).greatest))
+  span_numbers = (positive_number _ whole.ends.low.above, positive_number _ whole.ends.high.above)
 
   pub span_fits : T (fits binary64 (span_of l).least)
   span_fits = whole.ends.low.holds
 
-  pub span-within : Each
+  pub span_within : Each
       (λ (s : Swing). (key (span_of l).least ≤ key s.width) × (key s.width ≤ key (span_of l).greatest)) l
-  span-within = each_map (λ (s : Swing). Between (span_of l) s.width s.width)
+  span_within = each_map (λ (s : Swing). Between (span_of l) s.width s.width)
       (λ (s : Swing). (key (span_of l).least ≤ key s.width) × (key s.width ≤ key (span_of l).greatest))
       (λ s b. (b.from, b.to)) l whole.each

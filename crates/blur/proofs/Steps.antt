@@ -20,27 +20,27 @@ use Rattle.swings.specs.declared.Swing.{Swing}
 use Rattle.blur.specs.declared.select.Pass.{Pass}
 use Rattle.blur.specs.declared.select.Chosen.{Chosen}
 use Rattle.blur.specs.Median.{stays}
-use Rattle.blur.specs.Select.{high, counted, pickFrom, wanted, keptOf, prefix_of, reachOf, zeros, Tallied, Narrows}
+use Rattle.blur.specs.Select.{high, counted, pick_from, wanted, kept_of, prefix_of, reach_of, zeros, Tallied, Narrows}
 
 -- ---- the choice, digit by digit
-pub pick-here : (cs : List ℕ) (d p : ℕ) → d < length cs → p < get_or cs d 0
-    → record { digit = d; place = p } ≡ pickFrom (drop d cs) d p
-pick-here cs d p h k = rw (drop-cons cs d 0 h, lt-ltb p (get_or cs d 0) k) refl
+pub pick_here : (cs : List ℕ) (d p : ℕ) → d < length cs → p < get_or cs d 0
+    → record { digit = d; place = p } ≡ pick_from (drop d cs) d p
+pick_here cs d p h k = rw (drop-cons cs d 0 h, lt-ltb p (get_or cs d 0) k) refl
 
 pub pick_next : (cs : List ℕ) (d p : ℕ) → d < length cs → get_or cs d 0 ≤ p
-    → pickFrom (drop (d + 1) cs) (d + 1) (p - get_or cs d 0) ≡ pickFrom (drop d cs) d p
+    → pick_from (drop (d + 1) cs) (d + 1) (p - get_or cs d 0) ≡ pick_from (drop d cs) d p
 pick_next cs d p h k = rw (add-one d, drop-cons cs d 0 h, le-ltb p (get_or cs d 0) k) refl
 
-pub pick_end : (cs : List ℕ) (d p : ℕ) → length cs ≤ d → record { digit = 0; place = 0 } ≡ pickFrom (drop d cs) d p
+pub pick_end : (cs : List ℕ) (d p : ℕ) → length cs ≤ d → record { digit = 0; place = 0 } ≡ pick_from (drop d cs) d p
 pick_end cs d p h = rw (drop_of_length-le cs h) refl
 
 -- the digit chosen is one of the counts' places
-pub pick-lt : (cs : List ℕ) (d p : ℕ) → 0 < d + length cs → (pickFrom cs d p).digit < d + length cs
-pick-lt [] d p h = h
-pick-lt (c ∷ cs) d p h = go (ltb p c) (pick-lt cs (suc d) (p - c) (omega arith))
+pub pick_lt : (cs : List ℕ) (d p : ℕ) → 0 < d + length cs → (pick_from cs d p).digit < d + length cs
+pick_lt [] d p h = h
+pick_lt (c ∷ cs) d p h = go (ltb p c) (pick_lt cs (suc d) (p - c) (omega arith))
   where
-    go : (b : Bool) → (pickFrom cs (suc d) (p - c)).digit < suc d + length cs
-        → (cond b (record { digit = d; place = p }) (pickFrom cs (suc d) (p - c))).digit < d + suc (length cs)
+    go : (b : Bool) → (pick_from cs (suc d) (p - c)).digit < suc d + length cs
+        → (cond b (record { digit = d; place = p }) (pick_from cs (suc d) (p - c))).digit < d + suc (length cs)
     go true k = omega arith
     go false k = omega arith
 
@@ -54,12 +54,12 @@ other h p t f = rw (ne_eqb h p f, and-false t) refl
 pub hit : (r t : Bool) (h p : ℕ) → r ≡ t → not r ≡ false → h ≡ p → ◌≡◌ {A = ℕ} 1 (cond (t && eqb h p) 1 0)
 hit r t h p e f g = rw (← e, not-false r f, eq-eqb h p g) refl
 
-pub cond-le : (b : Bool) → cond b 1 0 ≤ 1
-cond-le true = omega arith
-cond-le false = omega arith
+pub cond_le : (b : Bool) → cond b 1 0 ≤ 1
+cond_le true = omega arith
+cond_le false = omega arith
 
 -- ---- one record: what is added is 1 where the pass counts it, else 0
-pub one-step : (s : Swing) (a : Pass) (cs : List ℕ) (h one : ℕ) → h ≡ high s a
+pub one_step : (s : Swing) (a : Pass) (cs : List ℕ) (h one : ℕ) → h ≡ high s a
     → one ≡ cond (stays a.strongest s && eqb (h / 8192) a.prefix) 1 0
     → Tallied s a cs (set cs (h % 8192) (get_or cs (h % 8192) 0 + one))
     (record {
@@ -76,7 +76,7 @@ pub one-step : (s : Swing) (a : Pass) (cs : List ℕ) (h one : ℕ) → h ≡ hi
       kept = a.kept;
       count = a.count + one;
     })
-one-step s a cs h one e f = rw (f, e) (go (counted s a) refl)
+one_step s a cs h one e f = rw (f, e) (go (counted s a) refl)
   where
     d : ℕ
     d = high s a % 8192
@@ -107,8 +107,8 @@ one-step s a cs h one e f = rw (f, e) (go (counted s a) refl)
 
 -- ---- the state after a pass
 pub narrows : (a : Pass) (cs after : List ℕ) (o : Chosen) (p prefix reach shift kept : ℕ) → p ≡ wanted a
-    → o ≡ pickFrom cs 0 p → kept ≡ keptOf a → shift ≡ a.shift - 13
-    → reach ≡ reachOf kept shift a.low a.high a.total → prefix ≡ prefix_of a o.digit
+    → o ≡ pick_from cs 0 p → kept ≡ kept_of a → shift ≡ a.shift - 13
+    → reach ≡ reach_of kept shift a.low a.high a.total → prefix ≡ prefix_of a o.digit
     → after ≡ replicate (length cs) 0 → length cs ≡ 8192
     → Narrows a cs after
     (record {
@@ -137,12 +137,12 @@ stays_of z top f g = rw (to_z-of_z w32 top g, to_z-of_z w32 z f) refl
 pub wider : {z : ℤ} → SFits w32 z → SFits w64 z
 wider f = record { sfits = lt_trans f.sfits (lit< tt) }
 
-pub twice-suc : (m : ℕ) → 2 * suc m ≡ suc (2 * m + 1)
-twice-suc m = omega arith
+pub twice_suc : (m : ℕ) → 2 * suc m ≡ suc (2 * m + 1)
+twice_suc m = omega arith
 
-twice-mag : (z : ℤ) → mag (pos 2 *ℤ z) ≤ 2 * mag z + 1
-twice-mag (pos n) = omega arith
-twice-mag (negsuc n) = rw (twice-suc n) (omega arith)
+twice_mag : (z : ℤ) → mag (pos 2 *ℤ z) ≤ 2 * mag z + 1
+twice_mag (pos n) = omega arith
+twice_mag (negsuc n) = rw (twice_suc n) (omega arith)
 
-pub twice-fits : {z : ℤ} → SFits w32 z → SFits w64 (pos 2 *ℤ z)
-twice-fits {z} f = record { sfits = omega (arith, twice-mag z, f.sfits) }
+pub twice_fits : {z : ℤ} → SFits w32 z → SFits w64 (pos 2 *ℤ z)
+twice_fits {z} f = record { sfits = omega (arith, twice_mag z, f.sfits) }

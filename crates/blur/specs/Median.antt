@@ -32,18 +32,18 @@ abbrev pub median : List Float → Float
 median ws = get_or (sort le ws) (length ws / 2) nan
 
 -- the double nearest 0.6
-abbrev pub sixTenths : Float
-sixTenths = of_bits binary64 0x3FE3333333333333
+abbrev pub six_tenths : Float
+six_tenths = of_bits binary64 0x3FE3333333333333
 
 -- "Fewer than the minimum: Nothing. Else the width .. divided by 0.6." No swing at all gives Nothing whatever the
 -- minimum.
-abbrev pub lengthFrom : List Float → ℕ → LineLength
-lengthFrom ws minimum =
-    cond (eqb (length ws) 0 || ltb (length ws) minimum) Nothing (Found (div binary64 (median ws) sixTenths))
+abbrev pub length_from : List Float → ℕ → LineLength
+length_from ws minimum =
+    cond (eqb (length ws) 0 || ltb (length ws) minimum) Nothing (Found (div binary64 (median ws) six_tenths))
 
 -- the length that a list of swings gives
 abbrev pub length_of : List Swing → ℕ → LineLength
-length_of l minimum = lengthFrom (kept (strongest l) l) minimum
+length_of l minimum = length_from (kept (strongest l) l) minimum
 
 -- ---- worked examples
 
@@ -59,10 +59,10 @@ some =
     ∷ (swing 0x3FF0000000000000 (pos 49)
     ∷ (swing 0x4004000000000000 (pos 50) ∷ (swing 0x4000000000000000 (pos 200) ∷ [])))
 
-example-found : length_of some 2 ≡ Found (of_bits binary64 0x4014000000000000)
+example_found : length_of some 2 ≡ Found (of_bits binary64 0x4014000000000000)
 unfolding some swing of_bits le div
-example-found = refl
+example_found = refl
 
-example-few : length_of some 3 ≡ Nothing
+example_few : length_of some 3 ≡ Nothing
 unfolding some swing of_bits le div
-example-few = refl
+example_few = refl

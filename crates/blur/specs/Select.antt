@@ -13,7 +13,7 @@ use Rattle.swings.specs.declared.scan.Span.{Span}
 use Rattle.walks.specs.Each.{Each}
 use Rattle.swings.specs.Scan.{span_of}
 use Rattle.swings.specs.Swings.{strongest}
-use Rattle.blur.specs.Median.{stays, sixTenths}
+use Rattle.blur.specs.Median.{stays, six_tenths}
 
 -- ---- one record's step in a pass
 
@@ -49,32 +49,32 @@ tallied s a counts =
     cond (counted s a) (set counts digit (get_or counts digit 0 + 1)) counts
 
 -- ---- a pass over a list: the step of each record, in order
-abbrev pub passAll : List Swing → Pass → Pass
-passAll [] a = a
-passAll (s ∷ l) a = passAll l (passed s a)
+abbrev pub pass_all : List Swing → Pass → Pass
+pass_all [] a = a
+pass_all (s ∷ l) a = pass_all l (passed s a)
 
-abbrev pub tallyAll : List Swing → Pass → List ℕ → List ℕ
-tallyAll [] a counts = counts
-tallyAll (s ∷ l) a counts = tallyAll l (passed s a) (tallied s a counts)
+abbrev pub tally_all : List Swing → Pass → List ℕ → List ℕ
+tally_all [] a counts = counts
+tally_all (s ∷ l) a counts = tally_all l (passed s a) (tallied s a counts)
 
 -- ---- after a pass
 
 -- the digit at which the running sum of the counts goes past the place, and the place among the keys with that digit; 0
 -- and 0 if no digit does
-abbrev pub pickFrom : List ℕ → ℕ → ℕ → Chosen
-pickFrom [] digit place = record { digit = 0; place = 0 }
-pickFrom (c ∷ cs) digit place =
-    cond (ltb place c) (record { digit = digit; place = place }) (pickFrom cs (suc digit) (place - c))
+abbrev pub pick_from : List ℕ → ℕ → ℕ → Chosen
+pick_from [] digit place = record { digit = 0; place = 0 }
+pick_from (c ∷ cs) digit place =
+    cond (ltb place c) (record { digit = digit; place = place }) (pick_from cs (suc digit) (place - c))
 
 -- the first pass counts all that stay, and the wanted place is half of that
-abbrev pub isFirst : Pass → Bool
-isFirst a = eqb a.kept 0
+abbrev pub is_first : Pass → Bool
+is_first a = eqb a.kept 0
 
 abbrev pub wanted : Pass → ℕ
-wanted a = cond (isFirst a) (a.count / 2) a.place
+wanted a = cond (is_first a) (a.count / 2) a.place
 
-abbrev pub keptOf : Pass → ℕ
-keptOf a = cond (isFirst a) a.count a.kept
+abbrev pub kept_of : Pass → ℕ
+kept_of a = cond (is_first a) a.count a.kept
 
 -- the digits found: with the one that was chosen, or those of the least key where the pass went over no record
 abbrev pub prefix_of : Pass → ℕ → ℕ
@@ -82,24 +82,24 @@ prefix_of a digit = cond (eqb a.reach 0) (a.low / 2 ^ a.shift) (a.prefix * 8192 
 
 -- a pass goes over no record where the least and the greatest key have the same digits down to its digit, as long as a
 -- later pass counts what stays
-abbrev pub reachOf : ℕ → ℕ → ℕ → ℕ → ℕ → ℕ
-reachOf kept shift low high total =
+abbrev pub reach_of : ℕ → ℕ → ℕ → ℕ → ℕ → ℕ
+reach_of kept shift low high total =
     cond (eqb kept 0 && not (eqb shift 0) && eqb (low / 2 ^ shift) (high / 2 ^ shift)) 0 total
 
 abbrev pub narrowed : Pass → List ℕ → Pass
 narrowed a counts =
-    let o = pickFrom counts 0 (wanted a) in
+    let o = pick_from counts 0 (wanted a) in
     record {
       left = a.left - 1;
       total = a.total;
-      reach = reachOf (keptOf a) (a.shift - 13) a.low a.high a.total;
+      reach = reach_of (kept_of a) (a.shift - 13) a.low a.high a.total;
       low = a.low;
       high = a.high;
       strongest = a.strongest;
       prefix = prefix_of a o.digit;
       shift = a.shift - 13;
       place = o.place;
-      kept = keptOf a;
+      kept = kept_of a;
       count = 0;
     }
 
@@ -111,7 +111,7 @@ started top span total =
     record {
       left = 5;
       total = total;
-      reach = reachOf 0 52 low high total;
+      reach = reach_of 0 52 low high total;
       low = low;
       high = high;
       strongest = top;
@@ -128,13 +128,13 @@ zeros = replicate 8192 0
 
 -- one pass over the list, and the choice of its digit
 abbrev pub round : List Swing → Pass → Pass
-round l a = narrowed (passAll (take a.reach l) a) (tallyAll (take a.reach l) a zeros)
+round l a = narrowed (pass_all (take a.reach l) a) (tally_all (take a.reach l) a zeros)
 
 -- ---- after the last pass the prefix is the median's bit pattern
 abbrev pub answered : Pass → ℕ → LineLength
 answered a minimum =
     cond (eqb a.kept 0 || ltb a.kept minimum) Nothing
-    (Found (div binary64 (of_bits binary64 a.prefix) sixTenths))
+    (Found (div binary64 (of_bits binary64 a.prefix) six_tenths))
 
 -- ---- what the steps ask for
 
@@ -177,8 +177,8 @@ pub record Tallied (s : Swing) (a : Pass) (before after : List ℕ) (r : Pass) :
   pub counts : after ≡ tallied s a before
 
 pub record Passes (l : List Swing) (a : Pass) (before after : List ℕ) (r : Pass) : Type 0 where
-  pub state : r ≡ passAll l a
-  pub counts : after ≡ tallyAll l a before
+  pub state : r ≡ pass_all l a
+  pub counts : after ≡ tally_all l a before
 
 pub record Narrows (a : Pass) (before after : List ℕ) (r : Pass) : Type 0 where
   pub state : r ≡ narrowed a before
@@ -194,7 +194,7 @@ two =
     ∷ (record { width = of_bits binary64 0x4000000000000000; swing = pos 200 } ∷ []))
 
 -- the first pass goes over no record, since all widths have the same exponent
-example-passes : (round two (round two (round two (round two (round two (started (pos 200) (span_of two) 3)))))).prefix
+example_passes : (round two (round two (round two (round two (round two (started (pos 200) (span_of two) 3)))))).prefix
     ≡ 0x4008000000000000
 unfolding two zeros of_bits to_bits lt
-example-passes = refl
+example_passes = refl

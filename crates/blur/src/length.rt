@@ -1,10 +1,10 @@
 // How long a smear is: document 01, 'Length'.
 ghost use Rattle.std.specs.Prelude.{◌≡◌};
 ghost use Rattle.image.specs.Call.{gray8};
-ghost use Rattle.swings.specs.Line.{stepPixels};
-ghost use Rattle.blur.specs.Length.{lengthRefusal, tooLittle, scanPlan, defaults, LengthMeasured};
-ghost use Rattle.blur.specs.Length.{undirectedRefusal, SnappedMeasured};
-ghost use Rattle.raster.specs.Direction.{fromAngle};
+ghost use Rattle.swings.specs.Line.{step_pixels};
+ghost use Rattle.blur.specs.Length.{length_refusal, too_little, scan_plan, defaults, LengthMeasured};
+ghost use Rattle.blur.specs.Length.{undirected_refusal, SnappedMeasured};
+ghost use Rattle.raster.specs.Direction.{from_angle};
 
 use crate::records::select;
 use crate::select::opened;
@@ -53,7 +53,7 @@ impl LineLengthConfig {
 
 // Refusals 1 to 4 of the layout, and 10 for fewer records than pixels; 0 where there is none.
 fn length_refusal(bytes: usize, width: usize, height: usize, stride: usize, lent: usize) -> u8
-    ensures { result ≡ lengthRefusal bytes width height stride lent }
+    ensures { result ≡ length_refusal bytes width height stride lent }
 {
     let own = layout_refusal(bytes, width, height, stride);
     if own != 0 {
@@ -72,7 +72,7 @@ fn too_little(
     minimum_transitions: usize,
     minimum_amplitude: u8,
 ) -> bool
-    ensures { result ≡ tooLittle width height minimum_transitions minimum_amplitude }
+    ensures { result ≡ too_little width height minimum_transitions minimum_amplitude }
 {
     if minimum_transitions == 0 {
         return true;
@@ -88,7 +88,7 @@ fn too_little(
 
 // How far apart the places of a line are.
 fn step_pixels(direction: RasterDirection4) -> f64
-    ensures { result ≡ stepPixels direction }
+    ensures { result ≡ step_pixels direction }
 {
     match direction {
         RasterDirection4::Horizontal => 1.0,
@@ -109,7 +109,7 @@ pub(crate) fn scan_plan(
     minimum_transitions: usize,
     minimum_amplitude: u8,
 ) -> ScanPlan
-    ensures { result ≡ scanPlan bytes lent width height stride direction minimum_transitions minimum_amplitude }
+    ensures { result ≡ scan_plan bytes lent width height stride direction minimum_transitions minimum_amplitude }
 {
     let refusal = length_refusal(bytes, width, height, stride, lent);
     let pixel = step_pixels(direction);
@@ -174,7 +174,7 @@ pub fn estimate_along(
 
 // What is refused where the angle has no direction: 1 to 4 of the layout, and else 7.
 fn undirected(bytes: usize, width: usize, height: usize, stride: usize) -> LengthAnswer
-    ensures { result ≡ LengthAnswer.Refused (undirectedRefusal bytes width height stride) }
+    ensures { result ≡ LengthAnswer.Refused (undirected_refusal bytes width height stride) }
 {
     let own = layout_refusal(bytes, width, height, stride);
     if own != 0 {
@@ -193,7 +193,7 @@ pub fn estimate_line_length_with(
     config: LineLengthConfig,
     swings: &mut [Swing],
 ) -> LengthAnswer
-    ensures { SnappedMeasured (gray8 «data».now width height stride) (fromAngle theta_radians)
+    ensures { SnappedMeasured (gray8 «data».now width height stride) (from_angle theta_radians)
         config.minimum_transitions config.minimum_amplitude swings.old swings.new result }
 {
     let SnappedDirection::Found(direction) = RasterDirection4::from_angle(theta_radians) else {
@@ -220,7 +220,7 @@ pub fn estimate_line_length(
     theta_radians: f64,
     swings: &mut [Swing],
 ) -> LengthAnswer
-    ensures { SnappedMeasured (gray8 «data».now width height stride) (fromAngle theta_radians)
+    ensures { SnappedMeasured (gray8 «data».now width height stride) (from_angle theta_radians)
         defaults.minimum_transitions defaults.minimum_amplitude
         swings.old swings.new result }
 {

@@ -7,7 +7,7 @@ ghost use Rattle.std.specs.Prelude.{◌≡◌, cond, not, ◌&&◌, ◌/◌, ◌
 ghost use Rattle.std.specs.Int.Signed.{le_z};
 ghost use Rattle.std.specs.Float.{binary64};
 ghost use Rattle.std.specs.Float.Ieee.{is_nan, nan_bits, to_bits};
-ghost use Rattle.blur.specs.Select.{pickFrom, wanted, keptOf, prefix_of, reachOf, started, answered, TallyAsked};
+ghost use Rattle.blur.specs.Select.{pick_from, wanted, kept_of, prefix_of, reach_of, started, answered, TallyAsked};
 ghost use Rattle.blur.specs.Select.{Tallied, NarrowAsked, Narrows};
 
 use crate::length::{LengthAnswer, LineLength};
@@ -89,7 +89,7 @@ pub fn clear(counts: &mut [u32])
 }
 
 pub fn choose(counts: &[u32], place: u32) -> Chosen
-    ensures { result ≡ pickFrom counts.now 0 place }
+    ensures { result ≡ pick_from counts.now 0 place }
 {
     let mut digit = 0;
     let mut left = place;
@@ -122,7 +122,7 @@ fn place_of(a: Pass) -> u32
 }
 
 fn kept_of(a: Pass) -> u32
-    ensures { result ≡ keptOf a }
+    ensures { result ≡ kept_of a }
 {
     if a.kept == 0 { a.count } else { a.kept }
 }
@@ -149,7 +149,7 @@ fn prefix_of(a: Pass, digit: usize) -> u64
 // before.
 fn reach_of(kept: u32, shift: u32, low: u64, high: u64, total: usize) -> usize
     requires { shift < 64 }
-    ensures { result ≡ reachOf kept shift low high total }
+    ensures { result ≡ reach_of kept shift low high total }
 {
     if kept != 0 {
         return total;

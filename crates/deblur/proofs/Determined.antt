@@ -3,38 +3,38 @@ use Prim.Native.Nat.{ℕ}
 use mathlib.Core.List.{List}
 use lib.IntN.{ℤ, pos}
 use lib.ListN.{length}
-use Rattle.numbers.specs.Scalar.{clampByte}
+use Rattle.numbers.specs.Scalar.{clamp_byte}
 use Rattle.image.specs.Call.{Gray8}
-use Rattle.image.specs.Determined.{Writes-one, Determines}
-use Rattle.image.proofs.Determined.{outcome-determines, painted-one}
+use Rattle.image.specs.Determined.{WritesOne, Determines}
+use Rattle.image.proofs.Determined.{outcome_determines, painted_one}
 use Rattle.line.specs.declared.kernel.LineKernel.{LineKernel}
 use Rattle.deblur.specs.Settings.{LineFilter}
 use Rattle.deblur.specs.Calls.{
-  restorationAnswer,
-  lastEstimate,
-  filterDecision,
-  filterWrites,
+  restoration_answer,
+  last_estimate,
+  filter_decision,
+  FilterWrites,
   Filtered,
-  estimateDecision,
-  estimateWrites,
+  estimate_decision,
+  EstimateWrites,
   EstimateWritten,
 }
 
-pub filter-one : (src : Gray8) (dstStride : ℕ) (kernel : LineKernel) → Writes-one (filterWrites src dstStride kernel)
-filter-one src dstStride kernel =
-    painted-one 0 (λ d c r. clampByte (lastEstimate src kernel d c r)) src.width src.height dstStride
+pub filter_one : (src : Gray8) (dst_stride : ℕ) (kernel : LineKernel) → WritesOne (FilterWrites src dst_stride kernel)
+filter_one src dst_stride kernel =
+    painted_one 0 (λ d c r. clamp_byte (last_estimate src kernel d c r)) src.width src.height dst_stride
 
-pub estimate-one : (src : Gray8) (kernel : LineKernel) → Writes-one (estimateWrites src kernel)
-estimate-one src kernel = painted-one (pos 0) (lastEstimate src kernel) src.width src.height src.width
+pub estimate_one : (src : Gray8) (kernel : LineKernel) → WritesOne (EstimateWrites src kernel)
+estimate_one src kernel = painted_one (pos 0) (last_estimate src kernel) src.width src.height src.width
 
-pub filtered-determined : (src dst : Gray8) (f : LineFilter)
+pub filtered_determined : (src dst : Gray8) (f : LineFilter)
     → Determines length (λ scratch scratch' new answer. Filtered src dst new f scratch scratch' answer)
-filtered-determined src dst f =
-    outcome-determines length (filterDecision src dst f) restorationAnswer (filterWrites src dst.stride f.kernel)
-    (filter-one src dst.stride f.kernel) dst.bytes
+filtered_determined src dst f =
+    outcome_determines length (filter_decision src dst f) restoration_answer (FilterWrites src dst.stride f.kernel)
+    (filter_one src dst.stride f.kernel) dst.bytes
 
-pub estimates-determined : (src : Gray8) (old : List ℤ) (f : LineFilter)
+pub estimates_determined : (src : Gray8) (old : List ℤ) (f : LineFilter)
     → Determines length (λ scratch scratch' new answer. EstimateWritten src old new f scratch scratch' answer)
-estimates-determined src old f =
-    outcome-determines length (estimateDecision src (length old) f) restorationAnswer (estimateWrites src f.kernel)
-    (estimate-one src f.kernel) old
+estimates_determined src old f =
+    outcome_determines length (estimate_decision src (length old) f) restoration_answer (EstimateWrites src f.kernel)
+    (estimate_one src f.kernel) old

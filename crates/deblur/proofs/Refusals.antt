@@ -8,249 +8,249 @@ use mathlib.Core.Path.{◌≡◌, refl}
 use lib.Dec.{eqb, ltb}
 use lib.Ieee.{Float}
 use borrow.Author.Tests.{eq-eqb, ne_eqb, lt-ltb, le-ltb, eqb-false, ltb-false, not-false}
-use Rattle.numbers.proofs.Nat.{even-or-odd}
-use Rattle.numbers.proofs.Test.{or-false-intro, or-false-left, or-false-right}
-use Rattle.floats.specs.Factor.{maxRelaxation, maxGain, within}
-use Rattle.image.specs.Refusal.{layoutRefusal, pairRefusal, firstRefusal}
-use Rattle.image.proofs.Chain.{cond-zero, cond-left, first-zero, first-own}
+use Rattle.numbers.proofs.Nat.{even_or_odd}
+use Rattle.numbers.proofs.Test.{or_false_intro, or_false_left, or_false_right}
+use Rattle.floats.specs.Factor.{max_relaxation, max_gain, within}
+use Rattle.image.specs.Refusal.{layout_refusal, pair_refusal, first_refusal}
+use Rattle.image.proofs.Chain.{cond_zero, cond_left, first_zero, first_own}
 use Rattle.image.proofs.Refusal.{laid, accepted}
-use Rattle.image.proofs.Pair.{laid-pair}
-use Rattle.raster.specs.Direction.{fromAngle, isFound, angleRefusal}
-use Rattle.line.specs.Kernel.{maxIterations, maxBlurLength}
+use Rattle.image.proofs.Pair.{laid_pair}
+use Rattle.raster.specs.Direction.{from_angle, is_found, angle_refusal}
+use Rattle.line.specs.Kernel.{max_iterations, max_blur_length}
 use Rattle.deblur.specs.declared.DirectionalUnsharpConfig.{DirectionalUnsharpConfig}
 use Rattle.deblur.specs.declared.VanCittertConfig.{VanCittertConfig}
-use Rattle.deblur.specs.Refusal.{blurLengthRefusal, factorRefusal, iterationsRefusal}
-use Rattle.deblur.specs.Refusal.{iteratedRefusal, scratchNeeded}
-use Rattle.deblur.specs.Refusal.{lineRefusal, restorationRefusal, unsharpRefusal, scratchShort, lentRefusal}
-use Rattle.deblur.specs.Refusal.{inOrder, filterRefusal, estimateRefusal, LengthTaken, IterationsTaken}
+use Rattle.deblur.specs.Refusal.{blur_length_refusal, factor_refusal, iterations_refusal}
+use Rattle.deblur.specs.Refusal.{iterated_refusal, scratch_needed}
+use Rattle.deblur.specs.Refusal.{line_refusal, restoration_refusal, unsharp_refusal, scratch_short, lent_refusal}
+use Rattle.deblur.specs.Refusal.{in_order, filter_refusal, estimate_refusal, LengthTaken, IterationsTaken}
 use Rattle.deblur.specs.Refusal.{RestorationTaken, UnsharpTaken, FilterAccepted, EstimateAccepted}
 
 -- ---- 7, the blur length
 
 module _ (width height L : ℕ) where
   abbrev long : Bool
-  long = ltb (maxBlurLength width height) L
+  long = ltb (max_blur_length width height) L
 
-  pub blur-length-7 : (L < 3) ⊎ ((L % 2 ≡ 0) ⊎ (maxBlurLength width height < L)) → blurLengthRefusal width height L ≡ 7
-  unfolding blurLengthRefusal
-  blur-length-7 (inl h) = simp (lt-ltb L 3 h)
-  blur-length-7 (inr (inl e)) = simp (eq-eqb (L % 2) 0 e, or-true)
-  blur-length-7 (inr (inr h)) = simp (lt-ltb (maxBlurLength width height) L h, or-true)
+  pub blur_length_7 : (L < 3) ⊎ ((L % 2 ≡ 0) ⊎ (max_blur_length width height < L)) → blur_length_refusal width height L ≡ 7
+  unfolding blur_length_refusal
+  blur_length_7 (inl h) = simp (lt-ltb L 3 h)
+  blur_length_7 (inr (inl e)) = simp (eq-eqb (L % 2) 0 e, or-true)
+  blur_length_7 (inr (inr h)) = simp (lt-ltb (max_blur_length width height) L h, or-true)
 
-  pub blur-length-0 : LengthTaken width height L → blurLengthRefusal width height L ≡ 0
-  unfolding blurLengthRefusal
-  blur-length-0 t =
+  pub blur_length_0 : LengthTaken width height L → blur_length_refusal width height L ≡ 0
+  unfolding blur_length_refusal
+  blur_length_0 t =
       let odd = t.odd in
       simp
-      (or-false-intro (or-false-intro (le-ltb L 3 t.least) (ne_eqb (L % 2) 0 (λ z. omega arith)))
-      (le-ltb (maxBlurLength width height) L t.most))
+      (or_false_intro (or_false_intro (le-ltb L 3 t.least) (ne_eqb (L % 2) 0 (λ z. omega arith)))
+      (le-ltb (max_blur_length width height) L t.most))
 
-  pub length_taken : blurLengthRefusal width height L ≡ 0 → LengthTaken width height L
-  unfolding blurLengthRefusal
+  pub length_taken : blur_length_refusal width height L ≡ 0 → LengthTaken width height L
+  unfolding blur_length_refusal
   length_taken e =
       let short = ltb L 3 in
       let even = eqb (L % 2) 0 in
-      let a = (cond-zero _ 7 _ (zero-lt-suc 6) e).0 in
-      let b = or-false-left (short || even) long a in
+      let a = (cond_zero _ 7 _ (zero-lt-suc 6) e).0 in
+      let b = or_false_left (short || even) long a in
       record {
-        least = ltb-false L 3 (or-false-left short even b);
-        odd = ⊎_elim (λ z. absurd (eqb-false (L % 2) 0 (or-false-right short even b) z)) (λ odd. odd) (even-or-odd L);
-        most = ltb-false (maxBlurLength width height) L (or-false-right (short || even) long a);
+        least = ltb-false L 3 (or_false_left short even b);
+        odd = ⊎_elim (λ z. absurd (eqb-false (L % 2) 0 (or_false_right short even b) z)) (λ odd. odd) (even_or_odd L);
+        most = ltb-false (max_blur_length width height) L (or_false_right (short || even) long a);
       }
 
 -- ---- 8, a factor
 
 module _ (limit : ℕ) (factor : Float) where
-  pub factor-8 : within limit factor ≡ false → factorRefusal limit factor ≡ 8
-  unfolding factorRefusal
-  factor-8 e = rw e
+  pub factor_8 : within limit factor ≡ false → factor_refusal limit factor ≡ 8
+  unfolding factor_refusal
+  factor_8 e = rw e
 
-  pub factor-0 : within limit factor ≡ true → factorRefusal limit factor ≡ 0
-  unfolding factorRefusal
-  factor-0 e = rw e
+  pub factor_0 : within limit factor ≡ true → factor_refusal limit factor ≡ 0
+  unfolding factor_refusal
+  factor_0 e = rw e
 
-  pub factor-taken : factorRefusal limit factor ≡ 0 → within limit factor ≡ true
-  unfolding factorRefusal
-  factor-taken e =
-      not-false (within limit factor) (cond-zero (not (within limit factor)) 8 0 (zero-lt-suc 7) e).0
+  pub factor_taken : factor_refusal limit factor ≡ 0 → within limit factor ≡ true
+  unfolding factor_refusal
+  factor_taken e =
+      not-false (within limit factor) (cond_zero (not (within limit factor)) 8 0 (zero-lt-suc 7) e).0
 
 -- ---- 8 and 9, the iterations
 
 module _ (iterations : ℕ) where
-  pub iterations-8 : iterations ≡ 0 → iterationsRefusal iterations ≡ 8
-  unfolding iterationsRefusal
-  iterations-8 e = simp (eq-eqb iterations 0 e)
+  pub iterations_8 : iterations ≡ 0 → iterations_refusal iterations ≡ 8
+  unfolding iterations_refusal
+  iterations_8 e = simp (eq-eqb iterations 0 e)
 
-  pub iterations-9 : maxIterations < iterations → iterationsRefusal iterations ≡ 9
-  unfolding iterationsRefusal
-  iterations-9 h = simp (ne_eqb iterations 0 (λ z. omega arith), lt-ltb maxIterations iterations h)
+  pub iterations_9 : max_iterations < iterations → iterations_refusal iterations ≡ 9
+  unfolding iterations_refusal
+  iterations_9 h = simp (ne_eqb iterations 0 (λ z. omega arith), lt-ltb max_iterations iterations h)
 
-  pub iterations-0 : IterationsTaken iterations → iterationsRefusal iterations ≡ 0
-  unfolding iterationsRefusal
-  iterations-0 t =
+  pub iterations_0 : IterationsTaken iterations → iterations_refusal iterations ≡ 0
+  unfolding iterations_refusal
+  iterations_0 t =
       let least = t.least in
-      simp (ne_eqb iterations 0 (λ z. omega arith), le-ltb maxIterations iterations t.most)
+      simp (ne_eqb iterations 0 (λ z. omega arith), le-ltb max_iterations iterations t.most)
 
-  pub iterations-taken : iterationsRefusal iterations ≡ 0 → IterationsTaken iterations
-  unfolding iterationsRefusal
-  iterations-taken e =
-      let a = cond-zero _ 8 _ (zero-lt-suc 7) e in
-      let b = cond-zero _ 9 _ (zero-lt-suc 8) a.1 in
+  pub iterations_taken : iterations_refusal iterations ≡ 0 → IterationsTaken iterations
+  unfolding iterations_refusal
+  iterations_taken e =
+      let a = cond_zero _ 8 _ (zero-lt-suc 7) e in
+      let b = cond_zero _ 9 _ (zero-lt-suc 8) a.1 in
       record {
         least = pos_of_ne-zero (eqb-false iterations 0 a.0);
-        most = ltb-false maxIterations iterations b.0;
+        most = ltb-false max_iterations iterations b.0;
       }
 
 -- ---- the settings
 
 -- 0 where both are
-pub first-0 : {a b : ℕ} → a ≡ 0 → b ≡ 0 → firstRefusal a b ≡ 0
-first-0 e f = rw (e, f)
+pub first_0 : {a b : ℕ} → a ≡ 0 → b ≡ 0 → first_refusal a b ≡ 0
+first_0 e f = rw (e, f)
 
 module _ (relaxation : Float) (iterations : ℕ) where
-  pub iterated-0 : within maxRelaxation relaxation ≡ true → IterationsTaken iterations
-      → iteratedRefusal relaxation iterations ≡ 0
-  iterated-0 f t = first-0 (factor-0 maxRelaxation relaxation f) (iterations-0 iterations t)
+  pub iterated_0 : within max_relaxation relaxation ≡ true → IterationsTaken iterations
+      → iterated_refusal relaxation iterations ≡ 0
+  iterated_0 f t = first_0 (factor_0 max_relaxation relaxation f) (iterations_0 iterations t)
 
-  pub iterated-taken : iteratedRefusal relaxation iterations ≡ 0
-      → (within maxRelaxation relaxation ≡ true) × IterationsTaken iterations
-  iterated-taken e =
-      let a = first-zero (factorRefusal maxRelaxation relaxation) (iterationsRefusal iterations) e in
-      (factor-taken maxRelaxation relaxation a.0, iterations-taken iterations a.1)
+  pub iterated_taken : iterated_refusal relaxation iterations ≡ 0
+      → (within max_relaxation relaxation ≡ true) × IterationsTaken iterations
+  iterated_taken e =
+      let a = first_zero (factor_refusal max_relaxation relaxation) (iterations_refusal iterations) e in
+      (factor_taken max_relaxation relaxation a.0, iterations_taken iterations a.1)
 
 module _ (width height : ℕ) where
-  pub line-0 : {L : ℕ} (angle : Float) → LengthTaken width height L → isFound (fromAngle angle) ≡ true
-      → lineRefusal width height L angle ≡ 0
-  line-0 {L} angle t f = first-0 (blur-length-0 width height L t) (rw f)
+  pub line_0 : {L : ℕ} (angle : Float) → LengthTaken width height L → is_found (from_angle angle) ≡ true
+      → line_refusal width height L angle ≡ 0
+  line_0 {L} angle t f = first_0 (blur_length_0 width height L t) (rw f)
 
   -- settings whose first refusal is the lines'
-  line_taken : (L : ℕ) (angle : Float) (next : ℕ) → firstRefusal (lineRefusal width height L angle) next ≡ 0
-      → LengthTaken width height L × (isFound (fromAngle angle) ≡ true) × (next ≡ 0)
+  line_taken : (L : ℕ) (angle : Float) (next : ℕ) → first_refusal (line_refusal width height L angle) next ≡ 0
+      → LengthTaken width height L × (is_found (from_angle angle) ≡ true) × (next ≡ 0)
   line_taken L angle next e =
-      let a = first-zero (lineRefusal width height L angle) next e in
-      let b = first-zero (blurLengthRefusal width height L) (angleRefusal (fromAngle angle)) a.0 in
-      (length_taken width height L b.0, cond-left (isFound (fromAngle angle)) 7 (zero-lt-suc 6) b.1, a.1)
+      let a = first_zero (line_refusal width height L angle) next e in
+      let b = first_zero (blur_length_refusal width height L) (angle_refusal (from_angle angle)) a.0 in
+      (length_taken width height L b.0, cond_left (is_found (from_angle angle)) 7 (zero-lt-suc 6) b.1, a.1)
 
-  pub restoration-taken : (config : VanCittertConfig) → restorationRefusal width height config ≡ 0
+  pub restoration_taken : (config : VanCittertConfig) → restoration_refusal width height config ≡ 0
       → RestorationTaken width height config
-  restoration-taken config e =
+  restoration_taken config e =
       let a = line_taken config.blur_length config.theta_radians _ e in
-      let b = iterated-taken config.relaxation config.iterations a.2 in
+      let b = iterated_taken config.relaxation config.iterations a.2 in
       record {
         length_taken = a.0;
-        direction-found = a.1;
-        relaxation-taken = b.0;
-        iterations-taken = b.1;
+        direction_found = a.1;
+        relaxation_taken = b.0;
+        iterations_taken = b.1;
       }
 
-  pub unsharp-taken : (config : DirectionalUnsharpConfig) → unsharpRefusal width height config ≡ 0
+  pub unsharp_taken : (config : DirectionalUnsharpConfig) → unsharp_refusal width height config ≡ 0
       → UnsharpTaken width height config
-  unsharp-taken config e =
+  unsharp_taken config e =
       let a = line_taken config.blur_length config.theta_radians _ e in
-      record { length_taken = a.0; direction-found = a.1; gain-taken = factor-taken maxGain config.gain a.2 }
+      record { length_taken = a.0; direction_found = a.1; gain_taken = factor_taken max_gain config.gain a.2 }
 
 -- ---- the order of the numbers
 
 module _ (pictures settings : ℕ) (short : Bool) where
-  pub order-pictures : (pictures ≡ 0 → ⊥) → inOrder pictures settings short ≡ pictures
-  order-pictures h = first-own pictures _ h
+  pub order_pictures : (pictures ≡ 0 → ⊥) → in_order pictures settings short ≡ pictures
+  order_pictures h = first_own pictures _ h
 
-  pub order-settings : pictures ≡ 0 → (settings ≡ 0 → ⊥) → inOrder pictures settings short ≡ settings
-  order-settings e h = rw e (first-own settings _ h)
+  pub order_settings : pictures ≡ 0 → (settings ≡ 0 → ⊥) → in_order pictures settings short ≡ settings
+  order_settings e h = rw e (first_own settings _ h)
 
   -- once the pictures are accepted: the settings, then what is lent
-  pub order-lent : pictures ≡ 0 → inOrder pictures settings short ≡ firstRefusal settings (lentRefusal short)
-  order-lent e = rw e
+  pub order_lent : pictures ≡ 0 → in_order pictures settings short ≡ first_refusal settings (lent_refusal short)
+  order_lent e = rw e
 
-  pub order-10 : pictures ≡ 0 → settings ≡ 0 → short ≡ true → inOrder pictures settings short ≡ 10
-  order-10 e d t = rw (e, d, t)
+  pub order_10 : pictures ≡ 0 → settings ≡ 0 → short ≡ true → in_order pictures settings short ≡ 10
+  order_10 e d t = rw (e, d, t)
 
-  pub order-0 : pictures ≡ 0 → settings ≡ 0 → short ≡ false → inOrder pictures settings short ≡ 0
-  order-0 e d t = rw (e, d, t)
+  pub order_0 : pictures ≡ 0 → settings ≡ 0 → short ≡ false → in_order pictures settings short ≡ 0
+  order_0 e d t = rw (e, d, t)
 
-  pub order-zero : inOrder pictures settings short ≡ 0 → (pictures ≡ 0) × (settings ≡ 0) × (short ≡ false)
-  order-zero e =
-      let a = first-zero pictures _ e in
-      let b = first-zero settings _ a.1 in
-      (a.0, b.0, (cond-zero short 10 0 (zero-lt-suc 9) b.1).0)
+  pub order_zero : in_order pictures settings short ≡ 0 → (pictures ≡ 0) × (settings ≡ 0) × (short ≡ false)
+  order_zero e =
+      let a = first_zero pictures _ e in
+      let b = first_zero settings _ a.1 in
+      (a.0, b.0, (cond_zero short 10 0 (zero-lt-suc 9) b.1).0)
 
 -- 10 is for what is lent alone
-pub order-ten : (pictures settings : ℕ) (short : Bool) → (pictures ≡ 10 → ⊥) → (settings ≡ 10 → ⊥)
-    → inOrder pictures settings short ≡ 10 → (pictures ≡ 0) × (short ≡ true)
-order-ten (suc pictures) settings short other-pictures other-settings e = absurd (other-pictures e)
-order-ten zero (suc settings) short other-pictures other-settings e = absurd (other-settings e)
-order-ten zero zero true other-pictures other-settings e = (refl, refl)
-order-ten zero zero false other-pictures other-settings e = absurd (omega (arith, e))
+pub order_ten : (pictures settings : ℕ) (short : Bool) → (pictures ≡ 10 → ⊥) → (settings ≡ 10 → ⊥)
+    → in_order pictures settings short ≡ 10 → (pictures ≡ 0) × (short ≡ true)
+order_ten (suc pictures) settings short other-pictures other-settings e = absurd (other-pictures e)
+order_ten zero (suc settings) short other-pictures other-settings e = absurd (other-settings e)
+order_ten zero zero true other-pictures other-settings e = (refl, refl)
+order_ten zero zero false other-pictures other-settings e = absurd (omega (arith, e))
 
 -- ---- restoration and line unsharp
 
-module _ (len width height stride dstLen dstWidth dstHeight dstStride settings scratchLen : ℕ) where
+module _ (len width height stride dst_len dst_width dst_height dst_stride settings scratch_len : ℕ) where
   abbrev pair : ℕ
-  pair = pairRefusal len width height stride dstLen dstWidth dstHeight dstStride
+  pair = pair_refusal len width height stride dst_len dst_width dst_height dst_stride
 
   abbrev filtered : ℕ
-  filtered = filterRefusal len width height stride dstLen dstWidth dstHeight dstStride settings scratchLen
+  filtered = filter_refusal len width height stride dst_len dst_width dst_height dst_stride settings scratch_len
 
-  pub filter-pictures : (pair ≡ 0 → ⊥) → filtered ≡ pair
-  unfolding filterRefusal
-  filter-pictures = order-pictures pair settings (scratchShort width height scratchLen)
+  pub filter_pictures : (pair ≡ 0 → ⊥) → filtered ≡ pair
+  unfolding filter_refusal
+  filter_pictures = order_pictures pair settings (scratch_short width height scratch_len)
 
-  pub filter-lent : pair ≡ 0 → filtered ≡ firstRefusal settings (lentRefusal (scratchShort width height scratchLen))
-  unfolding filterRefusal
-  filter-lent = order-lent pair settings (scratchShort width height scratchLen)
+  pub filter_lent : pair ≡ 0 → filtered ≡ first_refusal settings (lent_refusal (scratch_short width height scratch_len))
+  unfolding filter_refusal
+  filter_lent = order_lent pair settings (scratch_short width height scratch_len)
 
-  pub filter-accepted : filtered ≡ 0 → FilterAccepted len width height stride dstLen dstWidth dstHeight dstStride
-      settings scratchLen
-  unfolding filterRefusal
-  filter-accepted e =
-      let a = order-zero pair settings (scratchShort width height scratchLen) e in
+  pub filter_accepted : filtered ≡ 0 → FilterAccepted len width height stride dst_len dst_width dst_height dst_stride
+      settings scratch_len
+  unfolding filter_refusal
+  filter_accepted e =
+      let a = order_zero pair settings (scratch_short width height scratch_len) e in
       record {
-        pictures = laid-pair a.0;
-        settings-taken = a.1;
-        scratch-least = ltb-false scratchLen (scratchNeeded width height) a.2;
+        pictures = laid_pair a.0;
+        settings_taken = a.1;
+        scratch_least = ltb-false scratch_len (scratch_needed width height) a.2;
       }
 
 -- ---- the estimate call
 
-module _ (len width height stride dstLen settings scratchLen : ℕ) where
+module _ (len width height stride dst_len settings scratch_len : ℕ) where
   abbrev layout : ℕ
-  layout = layoutRefusal len width height stride
+  layout = layout_refusal len width height stride
 
   abbrev dst-short : Bool
-  dst-short = ltb dstLen (width * height)
+  dst-short = ltb dst_len (width * height)
 
   abbrev short : Bool
-  short = dst-short || scratchShort width height scratchLen
+  short = dst-short || scratch_short width height scratch_len
 
   abbrev estimated : ℕ
-  estimated = estimateRefusal len width height stride dstLen settings scratchLen
+  estimated = estimate_refusal len width height stride dst_len settings scratch_len
 
-  pub estimate-pictures : (layout ≡ 0 → ⊥) → estimated ≡ layout
-  unfolding estimateRefusal
-  estimate-pictures = order-pictures layout settings short
+  pub estimate_pictures : (layout ≡ 0 → ⊥) → estimated ≡ layout
+  unfolding estimate_refusal
+  estimate_pictures = order_pictures layout settings short
 
-  pub estimate-lent : layout ≡ 0 → estimated ≡ firstRefusal settings (lentRefusal short)
-  unfolding estimateRefusal
-  estimate-lent = order-lent layout settings short
+  pub estimate_lent : layout ≡ 0 → estimated ≡ first_refusal settings (lent_refusal short)
+  unfolding estimate_refusal
+  estimate_lent = order_lent layout settings short
 
   -- no number: accepted, and the other way round
-  pub estimate-accepted : estimated ≡ 0 → EstimateAccepted len width height stride dstLen settings scratchLen
-  unfolding estimateRefusal
-  estimate-accepted e =
-      let a = order-zero layout settings short e in
+  pub estimate_accepted : estimated ≡ 0 → EstimateAccepted len width height stride dst_len settings scratch_len
+  unfolding estimate_refusal
+  estimate_accepted e =
+      let a = order_zero layout settings short e in
       record {
         picture = laid a.0;
-        settings-taken = a.1;
-        dst-least = ltb-false dstLen (width * height)
-            (or-false-left dst-short (scratchShort width height scratchLen) a.2);
-        scratch-least =
-            ltb-false scratchLen (scratchNeeded width height)
-            (or-false-right dst-short (scratchShort width height scratchLen) a.2);
+        settings_taken = a.1;
+        dst_least = ltb-false dst_len (width * height)
+            (or_false_left dst-short (scratch_short width height scratch_len) a.2);
+        scratch_least =
+            ltb-false scratch_len (scratch_needed width height)
+            (or_false_right dst-short (scratch_short width height scratch_len) a.2);
       }
 
-  pub accepted-estimate : EstimateAccepted len width height stride dstLen settings scratchLen → estimated ≡ 0
-  unfolding estimateRefusal
-  accepted-estimate a =
-      order-0 layout settings short (accepted a.picture) a.settings-taken
-      (or-false-intro (le-ltb dstLen (width * height) a.dst-least)
-      (le-ltb scratchLen (scratchNeeded width height) a.scratch-least))
+  pub accepted_estimate : EstimateAccepted len width height stride dst_len settings scratch_len → estimated ≡ 0
+  unfolding estimate_refusal
+  accepted_estimate a =
+      order_0 layout settings short (accepted a.picture) a.settings_taken
+      (or_false_intro (le-ltb dst_len (width * height) a.dst_least)
+      (le-ltb scratch_len (scratch_needed width height) a.scratch_least))

@@ -8,9 +8,9 @@ use native.Mathlib.Omega.{arith}
 use lib.IntN.{ℤ}
 use lib.ListN.{length, set}
 use Rattle.numbers.specs.Written.{Written, comb}
-use Rattle.numbers.proofs.Places.{comb-none, comb-next}
-use Rattle.numbers.proofs.Written.{written_none, written-set}
-use Rattle.raster.proofs.Scatter.{place-back}
+use Rattle.numbers.proofs.Places.{comb_none, comb_next}
+use Rattle.numbers.proofs.Written.{written_none, written_set}
+use Rattle.raster.proofs.Scatter.{place_back}
 use Rattle.line.specs.Kernel.{line_at}
 use Rattle.deblur.specs.Scatter.{ScatterAsked}
 
@@ -20,24 +20,24 @@ ScatteredTo z g i n scratch start step old new = Written z (comb start step i)
     (λ j. g (line_at n scratch ((j - start) / step))) old new
 
 -- place i is a place of the destination
-pub place_in : {dstLen start step n scratchLen : ℕ} → ScatterAsked dstLen start step n scratchLen → {i : ℕ} → i < n
-    → start + i * step < dstLen
+pub place_in : {dst_len start step n scratch_len : ℕ} → ScatterAsked dst_len start step n scratch_len → {i : ℕ} → i < n
+    → start + i * step < dst_len
 place_in {start = start} {step} {n} asked {i} below =
     let m : i * step ≤ (n - 1) * step = mul-le-mul_right step (omega arith) in
     let r = asked.laid.reached in
     omega arith
 
 module _ {A : Type 0} {z : A} (g : ℤ → A) (n : ℕ) (scratch : List ℤ) (start step : ℕ) {old : List A} where
-  pub scatter-none : ScatteredTo z g 0 n scratch start step old old
-  scatter-none = written_none (λ j _. comb-none start step j)
+  pub scatter_none : ScatteredTo z g 0 n scratch start step old old
+  scatter_none = written_none (λ j _. comb_none start step j)
 
   module _ (asked : ScatterAsked (length old) start step n (length scratch)) {i : ℕ} (below : i < n) where
-    pub scatter-next : {new : List A} (v : A) → v ≡ g (line_at n scratch i)
+    pub scatter_next : {new : List A} (v : A) → v ≡ g (line_at n scratch i)
         → ScatteredTo z g i n scratch start step old new
         → ScatteredTo z g (i + 1) n scratch start step old (set new (start + i * step) v)
-    scatter-next v e W =
+    scatter_next v e W =
         let place : (start + i * step - start) / step
         ≡ i = ap (λ (m : ℕ). m / step) (add-sub_cancel_left start (i * step))
-        ∙ place-back step n i asked.apart below in
-        written-set (start + i * step) v W (rw W.same_length (place_in asked below))
-        (e ∙ ap (λ (p : ℕ). g (line_at n scratch p)) (sym place)) (comb-next start step i)
+        ∙ place_back step n i asked.apart below in
+        written_set (start + i * step) v W (rw W.same_length (place_in asked below))
+        (e ∙ ap (λ (p : ℕ). g (line_at n scratch p)) (sym place)) (comb_next start step i)

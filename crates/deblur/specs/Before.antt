@@ -2,50 +2,50 @@
 -- with 10 as it was, where it asked for document 01's 3 × width × height, and what it is for a call to end as it did.
 use Rattle.std.specs.Prelude.{ℕ, ◌*◌, ◌||◌, List, ◌≡◌, ltb, ℤ, length}
 use Rattle.image.specs.Call.{Gray8, Decision, Outcome}
-use Rattle.image.specs.Refusal.{layoutRefusal, pairRefusal}
+use Rattle.image.specs.Refusal.{layout_refusal, pair_refusal}
 use Rattle.raster.specs.declared.direction.RasterDirection4.{RasterDirection4}
 use Rattle.deblur.specs.declared.RestorationAnswer.{RestorationAnswer}
-use Rattle.deblur.specs.Calls.{restorationAnswer, decidedAlong, filterWrites, estimateWrites}
-use Rattle.deblur.specs.Refusal.{inOrder}
+use Rattle.deblur.specs.Calls.{restoration_answer, decided_along, FilterWrites, EstimateWrites}
+use Rattle.deblur.specs.Refusal.{in_order}
 use Rattle.deblur.specs.Settings.{LineFilter}
 
 -- how many i32 a line filter asked as scratch
-abbrev pub scratchBefore : ℕ → ℕ → ℕ
-scratchBefore width height = 3 * (width * height)
+abbrev pub scratch_before : ℕ → ℕ → ℕ
+scratch_before width height = 3 * (width * height)
 
 -- ---- restoration and line unsharp
 
-abbrev pub filterNumberBefore : Gray8 → Gray8 → LineFilter → ℕ → ℕ
-filterNumberBefore src dst f scratchLen =
-    inOrder
-    (pairRefusal (length src.bytes) src.width src.height src.stride (length dst.bytes) dst.width
+abbrev pub filter_number_before : Gray8 → Gray8 → LineFilter → ℕ → ℕ
+filter_number_before src dst f scratch_len =
+    in_order
+    (pair_refusal (length src.bytes) src.width src.height src.stride (length dst.bytes) dst.width
     dst.height dst.stride)
-    (f.refusal src.width src.height) (ltb scratchLen (scratchBefore src.width src.height))
+    (f.refusal src.width src.height) (ltb scratch_len (scratch_before src.width src.height))
 
-abbrev pub filterDecisionBefore : Gray8 → Gray8 → LineFilter → ℕ → Decision RasterDirection4
-filterDecisionBefore src dst f scratchLen = decidedAlong (filterNumberBefore src dst f scratchLen) f.direction
+abbrev pub filter_decision_before : Gray8 → Gray8 → LineFilter → ℕ → Decision RasterDirection4
+filter_decision_before src dst f scratch_len = decided_along (filter_number_before src dst f scratch_len) f.direction
 
 abbrev pub FilteredBefore : Gray8 → Gray8 → List ℕ → LineFilter → List ℤ → List ℤ → RestorationAnswer → Type 0
 FilteredBefore src dst new f scratch scratch' answer =
-    Outcome (filterDecisionBefore src dst f (length scratch)) restorationAnswer
-    (filterWrites src dst.stride f.kernel) dst.bytes new scratch scratch' answer
+    Outcome (filter_decision_before src dst f (length scratch)) restoration_answer
+    (FilterWrites src dst.stride f.kernel) dst.bytes new scratch scratch' answer
 
 -- ---- the estimate call
 
-abbrev pub estimateNumberBefore : Gray8 → ℕ → LineFilter → ℕ → ℕ
-estimateNumberBefore src dstLen f scratchLen =
-    inOrder (layoutRefusal (length src.bytes) src.width src.height src.stride)
+abbrev pub estimate_number_before : Gray8 → ℕ → LineFilter → ℕ → ℕ
+estimate_number_before src dst_len f scratch_len =
+    in_order (layout_refusal (length src.bytes) src.width src.height src.stride)
     (f.refusal src.width src.height)
-    (ltb dstLen (src.width * src.height) || ltb scratchLen (scratchBefore src.width src.height))
+    (ltb dst_len (src.width * src.height) || ltb scratch_len (scratch_before src.width src.height))
 
-abbrev pub estimateDecisionBefore : Gray8 → ℕ → LineFilter → ℕ → Decision RasterDirection4
-estimateDecisionBefore src dstLen f scratchLen =
-    decidedAlong (estimateNumberBefore src dstLen f scratchLen) f.direction
+abbrev pub estimate_decision_before : Gray8 → ℕ → LineFilter → ℕ → Decision RasterDirection4
+estimate_decision_before src dst_len f scratch_len =
+    decided_along (estimate_number_before src dst_len f scratch_len) f.direction
 
 abbrev pub EstimateWrittenBefore : Gray8 → List ℤ → List ℤ → LineFilter → List ℤ → List ℤ → RestorationAnswer → Type 0
 EstimateWrittenBefore src old new f scratch scratch' answer =
-    Outcome (estimateDecisionBefore src (length old) f (length scratch)) restorationAnswer
-    (estimateWrites src f.kernel) old new scratch scratch' answer
+    Outcome (estimate_decision_before src (length old) f (length scratch)) restoration_answer
+    (EstimateWrites src f.kernel) old new scratch scratch' answer
 
 -- ---- what it is to end as before
 

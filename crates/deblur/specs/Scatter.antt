@@ -4,8 +4,8 @@ use Rattle.numbers.specs.Written.{Written, comb}
 use Rattle.line.specs.Kernel.{LineAsked, line_at}
 
 -- the destination has the line's places, and each is its own
-pub record ScatterAsked (dstLen start step n scratchLen : ℕ) : Type 0 where
-  pub laid : LineAsked dstLen start step n scratchLen
+pub record ScatterAsked (dst_len start step n scratch_len : ℕ) : Type 0 where
+  pub laid : LineAsked dst_len start step n scratch_len
   pub apart : (0 < step) ⊎ (n ≤ 1)
 
 -- g of the estimate at each place, and nothing else changed

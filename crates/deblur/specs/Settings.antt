@@ -3,59 +3,59 @@
 use Rattle.std.specs.Prelude.{ℕ, Float}
 use Rattle.std.specs.Float.{binary64}
 use Rattle.std.specs.Float.Ieee.{of_bits}
-use Rattle.floats.specs.Factor.{roundedQ16}
-use Rattle.raster.specs.Direction.{fromAngle}
+use Rattle.floats.specs.Factor.{rounded_q16}
+use Rattle.raster.specs.Direction.{from_angle}
 use Rattle.raster.specs.declared.border.LineBorderMode.{LineBorderMode}
 use Rattle.raster.specs.declared.border.LineBorderMode.TheVariants.{Replicate}
 use Rattle.raster.specs.declared.direction.SnappedDirection.{SnappedDirection}
 use Rattle.line.specs.declared.kernel.LineKernel.{LineKernel}
 use Rattle.deblur.specs.declared.VanCittertConfig.{VanCittertConfig}
 use Rattle.deblur.specs.declared.DirectionalUnsharpConfig.{DirectionalUnsharpConfig}
-use Rattle.deblur.specs.Refusal.{restorationRefusal, unsharpRefusal}
+use Rattle.deblur.specs.Refusal.{restoration_refusal, unsharp_refusal}
 
 -- ---- the defaults
 
-abbrev pub defaultBlurLength : ℕ
-defaultBlurLength = 3
+abbrev pub default_blur_length : ℕ
+default_blur_length = 3
 
-abbrev pub defaultIterations : ℕ
-defaultIterations = 3
+abbrev pub default_iterations : ℕ
+default_iterations = 3
 
 -- 1.0
-abbrev pub defaultRelaxation : Float
-defaultRelaxation = of_bits binary64 0x3ff0_0000_0000_0000
+abbrev pub default_relaxation : Float
+default_relaxation = of_bits binary64 0x3ff0_0000_0000_0000
 
 -- 1.5
-abbrev pub defaultGain : Float
-defaultGain = of_bits binary64 0x3ff8_0000_0000_0000
+abbrev pub default_gain : Float
+default_gain = of_bits binary64 0x3ff8_0000_0000_0000
 
 -- angle 0.0, Replicate
-unfoldable pub vanCittertDefault : VanCittertConfig
-vanCittertDefault =
+unfoldable pub van_cittert_default : VanCittertConfig
+van_cittert_default =
     record {
       theta_radians = of_bits binary64 0;
-      blur_length = defaultBlurLength;
-      iterations = defaultIterations;
-      relaxation = defaultRelaxation;
+      blur_length = default_blur_length;
+      iterations = default_iterations;
+      relaxation = default_relaxation;
       border = Replicate;
     }
 
 -- angle 0.0, Replicate
-unfoldable pub unsharpDefault : DirectionalUnsharpConfig
-unsharpDefault =
+unfoldable pub unsharp_default : DirectionalUnsharpConfig
+unsharp_default =
     record {
       theta_radians = of_bits binary64 0;
-      blur_length = defaultBlurLength;
-      gain = defaultGain;
+      blur_length = default_blur_length;
+      gain = default_gain;
       border = Replicate;
     }
 
 -- ---- what settings come to
 
 -- on each line, where q is the factor's
-abbrev pub lineKernel : ℕ → Float → ℕ → LineBorderMode → LineKernel
-lineKernel L factor iterations border =
-    record { blur_length = L; q = roundedQ16 factor; iterations = iterations; border = border }
+abbrev pub line_kernel : ℕ → Float → ℕ → LineBorderMode → LineKernel
+line_kernel L factor iterations border =
+    record { blur_length = L; q = rounded_q16 factor; iterations = iterations; border = border }
 
 -- the refusal on a picture of these sides, 0 where there is none; the lines' direction, which settings that are not
 -- refused have; and what is done on each
@@ -64,19 +64,19 @@ pub record LineFilter : Type 0 where
   pub direction : SnappedDirection
   pub kernel : LineKernel
 
-abbrev pub restorationOf : VanCittertConfig → LineFilter
-restorationOf config =
+abbrev pub restoration_of : VanCittertConfig → LineFilter
+restoration_of config =
     record {
-      refusal = λ width height. restorationRefusal width height config;
-      direction = fromAngle config.theta_radians;
-      kernel = lineKernel config.blur_length config.relaxation config.iterations config.border;
+      refusal = λ width height. restoration_refusal width height config;
+      direction = from_angle config.theta_radians;
+      kernel = line_kernel config.blur_length config.relaxation config.iterations config.border;
     }
 
 -- one step
-abbrev pub unsharpOf : DirectionalUnsharpConfig → LineFilter
-unsharpOf config =
+abbrev pub unsharp_of : DirectionalUnsharpConfig → LineFilter
+unsharp_of config =
     record {
-      refusal = λ width height. unsharpRefusal width height config;
-      direction = fromAngle config.theta_radians;
-      kernel = lineKernel config.blur_length config.gain 1 config.border;
+      refusal = λ width height. unsharp_refusal width height config;
+      direction = from_angle config.theta_radians;
+      kernel = line_kernel config.blur_length config.gain 1 config.border;
     }

@@ -2,12 +2,12 @@
 // whole job.
 ghost use Rattle.std.specs.Prelude.{◌≡◌, T, pos, length, ◌*◌, ◌≤◌};
 ghost use Rattle.floats.specs.Factor.{within};
-ghost use Rattle.image.specs.Refusal.{maxSide, Laid};
-ghost use Rattle.numbers.specs.Scalar.{clampByte};
+ghost use Rattle.image.specs.Refusal.{max_side, Laid};
+ghost use Rattle.numbers.specs.Scalar.{clamp_byte};
 ghost use Rattle.numbers.specs.Written.{Painted};
-ghost use Rattle.deblur.specs.Lines.{kernelEstimate, rowStride, AlongAsked};
-ghost use Rattle.deblur.specs.Refusal.{scratchNeeded};
-ghost use Rattle.deblur.specs.Settings.{lineKernel};
+ghost use Rattle.deblur.specs.Lines.{kernel_estimate, row_stride, AlongAsked};
+ghost use Rattle.deblur.specs.Refusal.{scratch_needed};
+ghost use Rattle.deblur.specs.Settings.{line_kernel};
 
 use crate::lines::{estimate_lines_into, restore_lines_into};
 use line::kernel::LineKernel;
@@ -17,8 +17,8 @@ use raster::direction::RasterDirection4;
 
 // How many i32 a line filter asks as scratch: three parts of the longest line.
 pub fn scratch_needed(width: usize, height: usize) -> usize
-    requires { (width ≤ maxSide) × (height ≤ maxSide) }
-    ensures { result ≡ scratchNeeded width height }
+    requires { (width ≤ max_side) × (height ≤ max_side) }
+    ensures { result ≡ scratch_needed width height }
 {
     3 * max_usize(width, height)
 }
@@ -31,7 +31,7 @@ pub fn line_kernel(
     border: LineBorderMode,
 ) -> LineKernel
     requires { T (within 255 factor) }
-    ensures { result ≡ lineKernel blur_length factor iterations border }
+    ensures { result ≡ line_kernel blur_length factor iterations border }
 {
     LineKernel {
         blur_length,
@@ -43,7 +43,7 @@ pub fn line_kernel(
 
 // A picture of one row has any stride from its width on, which no step may be made of.
 fn row_stride(width: usize, height: usize, stride: usize) -> usize
-    ensures { result ≡ rowStride width height stride }
+    ensures { result ≡ row_stride width height stride }
 {
     if height == 1 { width } else { stride }
 }
@@ -62,8 +62,8 @@ pub fn restore_along(
 )
     requires { AlongAsked (length «data».now) width height stride kernel (length scratch.old)
         × Laid (length dst.old) width height dst_stride }
-    ensures { Painted 0 (λ c r. clampByte
-        (kernelEstimate «data».now width height stride direction kernel c r)) width height dst_stride
+    ensures { Painted 0 (λ c r. clamp_byte
+        (kernel_estimate «data».now width height stride direction kernel c r)) width height dst_stride
         dst.old dst.new }
 {
     restore_lines_into(
@@ -92,7 +92,7 @@ pub fn estimates_along(
 )
     requires { AlongAsked (length «data».now) width height stride kernel (length scratch.old)
         × (width * height ≤ length dst.old) }
-    ensures { Painted (pos 0) (kernelEstimate «data».now width height stride direction kernel) width
+    ensures { Painted (pos 0) (kernel_estimate «data».now width height stride direction kernel) width
         height width dst.old dst.new }
 {
     estimate_lines_into(

@@ -1,9 +1,9 @@
 // Restoration along lines, and line unsharp: the settings, the answers and the calls.
 ghost use Rattle.std.specs.Prelude.{◌≡◌};
 ghost use Rattle.image.specs.Call.{gray8};
-ghost use Rattle.raster.specs.Direction.{fromAngle};
-ghost use Rattle.deblur.specs.Calls.{restorationAnswer, decidedAlong, Filtered, EstimateWritten};
-ghost use Rattle.deblur.specs.Settings.{vanCittertDefault, unsharpDefault, restorationOf, unsharpOf};
+ghost use Rattle.raster.specs.Direction.{from_angle};
+ghost use Rattle.deblur.specs.Calls.{restoration_answer, decided_along, Filtered, EstimateWritten};
+ghost use Rattle.deblur.specs.Settings.{van_cittert_default, unsharp_default, restoration_of, unsharp_of};
 
 use crate::kernel::{estimates_along, line_kernel, restore_along};
 use crate::refusal::{estimate_refusal, filter_refusal, restoration_refusal, unsharp_refusal};
@@ -68,7 +68,7 @@ impl VanCittertConfig {
     pub const DEFAULT_RELAXATION: f64 = 1.0;
 
     pub fn default() -> Self
-        ensures { result ≡ vanCittertDefault }
+        ensures { result ≡ van_cittert_default }
     {
         VanCittertConfig {
             theta_radians: 0.0,
@@ -81,7 +81,7 @@ impl VanCittertConfig {
 
     // The direction that the lines take.
     pub fn raster_direction(self) -> SnappedDirection
-        ensures { result ≡ fromAngle self.theta_radians }
+        ensures { result ≡ from_angle self.theta_radians }
     {
         RasterDirection4::from_angle(self.theta_radians)
     }
@@ -93,7 +93,7 @@ impl DirectionalUnsharpConfig {
     pub const DEFAULT_GAIN: f64 = 1.5;
 
     pub fn default() -> Self
-        ensures { result ≡ unsharpDefault }
+        ensures { result ≡ unsharp_default }
     {
         DirectionalUnsharpConfig {
             theta_radians: 0.0,
@@ -106,7 +106,7 @@ impl DirectionalUnsharpConfig {
 
 // By the number of the refusal, which is not 0 where there is no direction.
 fn answer_along(refusal: u8, snapped: SnappedDirection) -> RestorationAnswer
-    ensures { result ≡ restorationAnswer (decidedAlong refusal snapped) }
+    ensures { result ≡ restoration_answer (decided_along refusal snapped) }
 {
     match snapped {
         SnappedDirection::Found(raster_direction) => {
@@ -134,7 +134,7 @@ pub fn van_cittert_line_into(
 ) -> RestorationAnswer
     ensures { Filtered (gray8 «data».now width height stride)
         (gray8 dst.old dst_width dst_height dst_stride)
-        dst.new (restorationOf config) scratch.old scratch.new result }
+        dst.new (restoration_of config) scratch.old scratch.new result }
 {
     let refusal = filter_refusal(
         data.len(),
@@ -178,7 +178,7 @@ pub fn van_cittert_estimate_into(
 ) -> RestorationAnswer
     ensures { EstimateWritten (gray8 «data».now width height stride) dst.old
         dst.new
-        (restorationOf config) scratch.old scratch.new result }
+        (restoration_of config) scratch.old scratch.new result }
 {
     let refusal = estimate_refusal(
         data.len(),
@@ -220,7 +220,7 @@ pub fn directional_unsharp_line_into(
 ) -> RestorationAnswer
     ensures { Filtered (gray8 «data».now width height stride)
         (gray8 dst.old dst_width dst_height dst_stride)
-        dst.new (unsharpOf config) scratch.old scratch.new result }
+        dst.new (unsharp_of config) scratch.old scratch.new result }
 {
     let refusal = filter_refusal(
         data.len(),

@@ -1,10 +1,10 @@
 // All lines of a direction, one after the other: each is restored in the front of the scratch and written to its
 // places.
 ghost use Rattle.std.specs.Prelude.{pos, length, ◌<◌};
-ghost use Rattle.numbers.specs.Scalar.{clampByte};
+ghost use Rattle.numbers.specs.Scalar.{clamp_byte};
 ghost use Rattle.numbers.specs.Written.{Painted};
-ghost use Rattle.raster.specs.Lines.{lineCount};
-ghost use Rattle.deblur.specs.Lines.{kernelEstimate, SourceAsked, ScanLineRestored, LinesAsked};
+ghost use Rattle.raster.specs.Lines.{line_count};
+ghost use Rattle.deblur.specs.Lines.{kernel_estimate, SourceAsked, ScanLineRestored, LinesAsked};
 
 use crate::scatter::{scatter_i32, scatter_u8};
 use line::kernel::{LineKernel, restore_line};
@@ -23,7 +23,7 @@ fn restore_scan_line(
     scratch: &mut [i32],
 ) -> ScanLine
     requires { SourceAsked (length «data».now) width height stride kernel (length scratch.old)
-        × (k < lineCount direction width height) }
+        × (k < line_count direction width height) }
     ensures { ScanLineRestored «data».now width height stride direction k kernel scratch.new
         result }
 {
@@ -48,8 +48,8 @@ pub(crate) fn restore_lines_into(
 )
     requires { LinesAsked (length «data».now) width height stride (length dst.old) dst_stride kernel
         (length scratch.old) }
-    ensures { Painted 0 (λ c r. clampByte
-        (kernelEstimate «data».now width height stride direction kernel c r)) width height dst_stride
+    ensures { Painted 0 (λ c r. clamp_byte
+        (kernel_estimate «data».now width height stride direction kernel c r)) width height dst_stride
         dst.old dst.new }
 {
     let count = line_count(direction, width, height);
@@ -82,7 +82,7 @@ pub(crate) fn estimate_lines_into(
 )
     requires { LinesAsked (length «data».now) width height stride (length dst.old) dst_stride kernel
         (length scratch.old) }
-    ensures { Painted (pos 0) (kernelEstimate «data».now width height stride direction kernel) width
+    ensures { Painted (pos 0) (kernel_estimate «data».now width height stride direction kernel) width
         height dst_stride dst.old dst.new }
 {
     let count = line_count(direction, width, height);

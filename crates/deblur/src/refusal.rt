@@ -1,12 +1,12 @@
 // The refusals of the line filters: a test for each number, 0 where nothing is refused, and the tests in document 01's
 // order.
 ghost use Rattle.std.specs.Prelude.{◌≡◌};
-ghost use Rattle.image.specs.Refusal.{firstRefusal};
-ghost use Rattle.raster.specs.Direction.{fromAngle, angleRefusal};
-ghost use Rattle.deblur.specs.Refusal.{blurLengthRefusal, factorRefusal, iterationsRefusal};
-ghost use Rattle.deblur.specs.Refusal.{iteratedRefusal, lentRefusal};
-ghost use Rattle.deblur.specs.Refusal.{lineRefusal, restorationRefusal, unsharpRefusal, filterRefusal};
-ghost use Rattle.deblur.specs.Refusal.{estimateRefusal};
+ghost use Rattle.image.specs.Refusal.{first_refusal};
+ghost use Rattle.raster.specs.Direction.{from_angle, angle_refusal};
+ghost use Rattle.deblur.specs.Refusal.{blur_length_refusal, factor_refusal, iterations_refusal};
+ghost use Rattle.deblur.specs.Refusal.{iterated_refusal, lent_refusal};
+ghost use Rattle.deblur.specs.Refusal.{line_refusal, restoration_refusal, unsharp_refusal, filter_refusal};
+ghost use Rattle.deblur.specs.Refusal.{estimate_refusal};
 
 use crate::kernel::scratch_needed;
 use crate::{DirectionalUnsharpConfig, VanCittertConfig};
@@ -15,21 +15,21 @@ use raster::direction::{RasterDirection4, SnappedDirection};
 
 // The first refusal of two.
 pub fn first_refusal(first: u8, next: u8) -> u8
-    ensures { result ≡ firstRefusal first next }
+    ensures { result ≡ first_refusal first next }
 {
     if first != 0 { first } else { next }
 }
 
 // 10, where what is lent is too short.
 pub fn lent_refusal(short: bool) -> u8
-    ensures { result ≡ lentRefusal short }
+    ensures { result ≡ lent_refusal short }
 {
     if short { 10 } else { 0 }
 }
 
 // 7, for the blur length.
 fn blur_length_refusal(width: usize, height: usize, length: usize) -> u8
-    ensures { result ≡ blurLengthRefusal width height length }
+    ensures { result ≡ blur_length_refusal width height length }
 {
     if length < 3 || length % 2 == 0 {
         return 7;
@@ -43,7 +43,7 @@ fn blur_length_refusal(width: usize, height: usize, length: usize) -> u8
 
 // 7, for an angle without a direction.
 fn angle_refusal(angle: f64) -> u8
-    ensures { result ≡ angleRefusal (fromAngle angle) }
+    ensures { result ≡ angle_refusal (from_angle angle) }
 {
     match RasterDirection4::from_angle(angle) {
         SnappedDirection::Found(_) => 0,
@@ -53,7 +53,7 @@ fn angle_refusal(angle: f64) -> u8
 
 // 8, for a relaxation or a gain.
 fn factor_refusal(factor: f64, limit: u8) -> u8
-    ensures { result ≡ factorRefusal limit factor }
+    ensures { result ≡ factor_refusal limit factor }
 {
     if floats::is_within(factor, limit) {
         0
@@ -64,7 +64,7 @@ fn factor_refusal(factor: f64, limit: u8) -> u8
 
 // 8 or 9, for the iterations.
 fn iterations_refusal(iterations: usize) -> u8
-    ensures { result ≡ iterationsRefusal iterations }
+    ensures { result ≡ iterations_refusal iterations }
 {
     if iterations == 0 {
         return 8;
@@ -77,7 +77,7 @@ fn iterations_refusal(iterations: usize) -> u8
 
 // 8 and 9 of an iterated restoration.
 pub fn iterated_refusal(relaxation: f64, iterations: usize) -> u8
-    ensures { result ≡ iteratedRefusal relaxation iterations }
+    ensures { result ≡ iterated_refusal relaxation iterations }
 {
     first_refusal(
         factor_refusal(relaxation, VanCittertConfig::MAX_RELAXATION),
@@ -87,7 +87,7 @@ pub fn iterated_refusal(relaxation: f64, iterations: usize) -> u8
 
 // 7 of a filter along lines.
 fn line_refusal(width: usize, height: usize, length: usize, angle: f64) -> u8
-    ensures { result ≡ lineRefusal width height length angle }
+    ensures { result ≡ line_refusal width height length angle }
 {
     first_refusal(
         blur_length_refusal(width, height, length),
@@ -97,7 +97,7 @@ fn line_refusal(width: usize, height: usize, length: usize, angle: f64) -> u8
 
 // 7 to 9 of the restoration.
 pub fn restoration_refusal(width: usize, height: usize, config: VanCittertConfig) -> u8
-    ensures { result ≡ restorationRefusal width height config }
+    ensures { result ≡ restoration_refusal width height config }
 {
     first_refusal(
         line_refusal(width, height, config.blur_length, config.theta_radians),
@@ -107,7 +107,7 @@ pub fn restoration_refusal(width: usize, height: usize, config: VanCittertConfig
 
 // 7 and 8 of the line unsharp.
 pub fn unsharp_refusal(width: usize, height: usize, config: DirectionalUnsharpConfig) -> u8
-    ensures { result ≡ unsharpRefusal width height config }
+    ensures { result ≡ unsharp_refusal width height config }
 {
     first_refusal(
         line_refusal(width, height, config.blur_length, config.theta_radians),
@@ -128,7 +128,7 @@ pub fn filter_refusal(
     settings: u8,
     scratch_len: usize,
 ) -> u8
-    ensures { result ≡ filterRefusal len width height stride dst_len dst_width dst_height dst_stride settings
+    ensures { result ≡ filter_refusal len width height stride dst_len dst_width dst_height dst_stride settings
         scratch_len }
 {
     let pictures = image::pair_refusal(
@@ -151,7 +151,7 @@ pub fn estimate_refusal(
     settings: u8,
     scratch_len: usize,
 ) -> u8
-    ensures { result ≡ estimateRefusal len width height stride dst_len settings scratch_len }
+    ensures { result ≡ estimate_refusal len width height stride dst_len settings scratch_len }
 {
     let layout = image::layout_refusal(len, width, height, stride);
     if layout != 0 {

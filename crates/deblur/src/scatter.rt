@@ -1,12 +1,12 @@
 // A line's last estimate, from the second part of its scratch to the line's places of a destination.
 ghost use Rattle.std.specs.Prelude.{pos, length};
-ghost use Rattle.numbers.specs.Scalar.{clampByte};
+ghost use Rattle.numbers.specs.Scalar.{clamp_byte};
 ghost use Rattle.deblur.specs.Scatter.{ScatterAsked, Scattered};
 
 // Cut to 0..255.
 pub(crate) fn scatter_u8(scratch: &[i32], n: usize, dst: &mut [u8], start: usize, step: usize)
     requires { ScatterAsked (length dst.old) start step n (length scratch.now) }
-    ensures { Scattered 0 clampByte n scratch.now start step dst.old dst.new }
+    ensures { Scattered 0 clamp_byte n scratch.now start step dst.old dst.new }
 {
     let mut i = 0;
     while i < n {

@@ -3,138 +3,138 @@ use Rattle.std.proofs.Common.{◌≡◌, refl}
 use lib.Ieee.{binary64, of_bits}
 use Rattle.floats.specs.declared.Quantized.TheVariants.{Q16, Refused}
 use Rattle.floats.specs.declared.OddLength.TheVariants.{Length, Beyond}
-use Rattle.floats.specs.Factor.{quantized, factorOf}
-use Rattle.floats.specs.Odd.{oddLength}
+use Rattle.floats.specs.Factor.{quantized, factor_of}
+use Rattle.floats.specs.Odd.{odd_length}
 
 -- ---- q of a factor
 
 -- 0.1
-at-tenth : quantized 1 (of_bits binary64 0x3fb9_9999_9999_999a) ≡ Q16 6554
+at_tenth : quantized 1 (of_bits binary64 0x3fb9_9999_9999_999a) ≡ Q16 6554
 unfolding quantized of_bits
-at-tenth = refl
+at_tenth = refl
 
 -- 2 ^ -17, half of 1 / 65,536
-at-half-step : quantized 1 (of_bits binary64 0x3ee0_0000_0000_0000) ≡ Q16 1
+at_half_step : quantized 1 (of_bits binary64 0x3ee0_0000_0000_0000) ≡ Q16 1
 unfolding quantized of_bits
-at-half-step = refl
+at_half_step = refl
 
 -- the double below it
-at-below-half-step : quantized 1 (of_bits binary64 0x3edf_ffff_ffff_ffff) ≡ Q16 0
+at_below_half_step : quantized 1 (of_bits binary64 0x3edf_ffff_ffff_ffff) ≡ Q16 0
 unfolding quantized of_bits
-at-below-half-step = refl
+at_below_half_step = refl
 
 -- -0.0
-at-minus-zero : quantized 1 (of_bits binary64 0x8000_0000_0000_0000) ≡ Q16 0
+at_minus_zero : quantized 1 (of_bits binary64 0x8000_0000_0000_0000) ≡ Q16 0
 unfolding quantized of_bits
-at-minus-zero = refl
+at_minus_zero = refl
 
 -- 2 ^ -1074, the smallest double above 0
-at-smallest : quantized 1 (of_bits binary64 0x0000_0000_0000_0001) ≡ Q16 0
+at_smallest : quantized 1 (of_bits binary64 0x0000_0000_0000_0001) ≡ Q16 0
 unfolding quantized of_bits
-at-smallest = refl
+at_smallest = refl
 
 -- 1.0, and the double above it
 at_one : quantized 1 (of_bits binary64 0x3ff0_0000_0000_0000) ≡ Q16 65536
 unfolding quantized of_bits
 at_one = refl
 
-at-above-one : quantized 1 (of_bits binary64 0x3ff0_0000_0000_0001) ≡ Refused
+at_above_one : quantized 1 (of_bits binary64 0x3ff0_0000_0000_0001) ≡ Refused
 unfolding quantized of_bits
-at-above-one = refl
+at_above_one = refl
 
 -- 8.0 is a gain and no relaxation
-at-eight : quantized 8 (of_bits binary64 0x4020_0000_0000_0000) ≡ Q16 524288
+at_eight : quantized 8 (of_bits binary64 0x4020_0000_0000_0000) ≡ Q16 524288
 unfolding quantized of_bits
-at-eight = refl
+at_eight = refl
 
-at-eight-relaxation : quantized 1 (of_bits binary64 0x4020_0000_0000_0000) ≡ Refused
+at_eight_relaxation : quantized 1 (of_bits binary64 0x4020_0000_0000_0000) ≡ Refused
 unfolding quantized of_bits
-at-eight-relaxation = refl
+at_eight_relaxation = refl
 
 -- the double above 8.0
-at-above-eight : quantized 8 (of_bits binary64 0x4020_0000_0000_0001) ≡ Refused
+at_above_eight : quantized 8 (of_bits binary64 0x4020_0000_0000_0001) ≡ Refused
 unfolding quantized of_bits
-at-above-eight = refl
+at_above_eight = refl
 
 -- -2 ^ -1074, the largest double below 0
-at-below-zero : quantized 8 (of_bits binary64 0x8000_0000_0000_0001) ≡ Refused
+at_below_zero : quantized 8 (of_bits binary64 0x8000_0000_0000_0001) ≡ Refused
 unfolding quantized of_bits
-at-below-zero = refl
+at_below_zero = refl
 
 -- no number, and the infinities
-at-nan : quantized 8 (of_bits binary64 0x7ff8_0000_0000_0000) ≡ Refused
+at_nan : quantized 8 (of_bits binary64 0x7ff8_0000_0000_0000) ≡ Refused
 unfolding quantized of_bits
-at-nan = refl
+at_nan = refl
 
-at-infinity : quantized 8 (of_bits binary64 0x7ff0_0000_0000_0000) ≡ Refused
+at_infinity : quantized 8 (of_bits binary64 0x7ff0_0000_0000_0000) ≡ Refused
 unfolding quantized of_bits
-at-infinity = refl
+at_infinity = refl
 
-at-minus-infinity : quantized 8 (of_bits binary64 0xfff0_0000_0000_0000) ≡ Refused
+at_minus_infinity : quantized 8 (of_bits binary64 0xfff0_0000_0000_0000) ≡ Refused
 unfolding quantized of_bits
-at-minus-infinity = refl
+at_minus_infinity = refl
 
 -- ---- the odd length of an estimate
 
 -- 5.0, 4.0, 3.0, 0.1, 4.5
-at-length-five : oddLength (of_bits binary64 0x4014_0000_0000_0000) ≡ Length 5
-unfolding oddLength of_bits
-at-length-five = refl
+at_length_five : odd_length (of_bits binary64 0x4014_0000_0000_0000) ≡ Length 5
+unfolding odd_length of_bits
+at_length_five = refl
 
-at-length-four : oddLength (of_bits binary64 0x4010_0000_0000_0000) ≡ Length 5
-unfolding oddLength of_bits
-at-length-four = refl
+at_length_four : odd_length (of_bits binary64 0x4010_0000_0000_0000) ≡ Length 5
+unfolding odd_length of_bits
+at_length_four = refl
 
-at-length-three : oddLength (of_bits binary64 0x4008_0000_0000_0000) ≡ Length 3
-unfolding oddLength of_bits
-at-length-three = refl
+at_length_three : odd_length (of_bits binary64 0x4008_0000_0000_0000) ≡ Length 3
+unfolding odd_length of_bits
+at_length_three = refl
 
-at-length-tenth : oddLength (of_bits binary64 0x3fb9_9999_9999_999a) ≡ Length 3
-unfolding oddLength of_bits
-at-length-tenth = refl
+at_length_tenth : odd_length (of_bits binary64 0x3fb9_9999_9999_999a) ≡ Length 3
+unfolding odd_length of_bits
+at_length_tenth = refl
 
-at-length-four-and-a-half : oddLength (of_bits binary64 0x4012_0000_0000_0000) ≡ Length 5
-unfolding oddLength of_bits
-at-length-four-and-a-half = refl
+at_length_four_and_a_half : odd_length (of_bits binary64 0x4012_0000_0000_0000) ≡ Length 5
+unfolding odd_length of_bits
+at_length_four_and_a_half = refl
 
 -- 5.000000000000001, the double above 5.0
-at-length-above-five : oddLength (of_bits binary64 0x4014_0000_0000_0001) ≡ Length 7
-unfolding oddLength of_bits
-at-length-above-five = refl
+at_length_above_five : odd_length (of_bits binary64 0x4014_0000_0000_0001) ≡ Length 7
+unfolding odd_length of_bits
+at_length_above_five = refl
 
 -- -0.0, -7.5 and -infinity
-at-length-minus-zero : oddLength (of_bits binary64 0x8000_0000_0000_0000) ≡ Length 3
-unfolding oddLength of_bits
-at-length-minus-zero = refl
+at_length_minus_zero : odd_length (of_bits binary64 0x8000_0000_0000_0000) ≡ Length 3
+unfolding odd_length of_bits
+at_length_minus_zero = refl
 
-at-length-negative : oddLength (of_bits binary64 0xc01e_0000_0000_0000) ≡ Length 3
-unfolding oddLength of_bits
-at-length-negative = refl
+at_length_negative : odd_length (of_bits binary64 0xc01e_0000_0000_0000) ≡ Length 3
+unfolding odd_length of_bits
+at_length_negative = refl
 
-at-length-minus-infinity : oddLength (of_bits binary64 0xfff0_0000_0000_0000) ≡ Length 3
-unfolding oddLength of_bits
-at-length-minus-infinity = refl
+at_length_minus_infinity : odd_length (of_bits binary64 0xfff0_0000_0000_0000) ≡ Length 3
+unfolding odd_length of_bits
+at_length_minus_infinity = refl
 
 -- 2 ^ 53, and the double above it
-at-length-top : oddLength (of_bits binary64 0x4340_0000_0000_0000) ≡ Length 9007199254740993
-unfolding oddLength of_bits
-at-length-top = refl
+at_length_top : odd_length (of_bits binary64 0x4340_0000_0000_0000) ≡ Length 9007199254740993
+unfolding odd_length of_bits
+at_length_top = refl
 
-at-length-above-top : oddLength (of_bits binary64 0x4340_0000_0000_0001) ≡ Beyond
-unfolding oddLength of_bits
-at-length-above-top = refl
+at_length_above_top : odd_length (of_bits binary64 0x4340_0000_0000_0001) ≡ Beyond
+unfolding odd_length of_bits
+at_length_above_top = refl
 
 -- infinity, and no number
-at-length-infinity : oddLength (of_bits binary64 0x7ff0_0000_0000_0000) ≡ Beyond
-unfolding oddLength of_bits
-at-length-infinity = refl
+at_length_infinity : odd_length (of_bits binary64 0x7ff0_0000_0000_0000) ≡ Beyond
+unfolding odd_length of_bits
+at_length_infinity = refl
 
-at-length-nan : oddLength (of_bits binary64 0x7ff8_0000_0000_0000) ≡ Beyond
-unfolding oddLength of_bits
-at-length-nan = refl
+at_length_nan : odd_length (of_bits binary64 0x7ff8_0000_0000_0000) ≡ Beyond
+unfolding odd_length of_bits
+at_length_nan = refl
 
 -- ---- the factor of a q
 
-at-factor : factorOf 6554 ≡ of_bits binary64 0x3fb9_9a00_0000_0000
-unfolding factorOf of_bits
-at-factor = refl
+at_factor : factor_of 6554 ≡ of_bits binary64 0x3fb9_9a00_0000_0000
+unfolding factor_of of_bits
+at_factor = refl

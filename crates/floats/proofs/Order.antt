@@ -1,5 +1,5 @@
--- Comparisons of doubles as comparisons of whole numbers. `lt-value`, `le-value`, `eq-value`: of two finite values with
--- any signs, by any fractions that they equal, cross-multiplied. `le-positive`: of two that are not negative. Then
+-- Comparisons of doubles as comparisons of whole numbers. `lt_value`, `le_value`, `eq_value`: of two finite values with
+-- any signs, by any fractions that they equal, cross-multiplied. `le_positive`: of two that are not negative. Then
 -- those with an infinity and with a NaN.
 use Rattle.std.proofs.Common.{◌≡◌, ℕ, zero, suc, ◌+◌, ◌*◌, ◌<◌, Bool, true, false, ◌&&◌, ◌||◌, T, eqb, ltb, leb, ◌⊎◌, ℤ, sym, refl, ap, ◌∙◌, inl, inr, le_of_eq, le_of_lt, mul_assoc, mul_comm, add-mul, lt_of_mul-lt-mul_right, eq-or-lt_of_le, mul-lt-mul_of_pos_right, mul-pos, zero-mul, mul_left_comm, arith, le→leb, eqb→eq, ltb→lt, lt→ltb, leb→le}
 use native.Mathlib.Nat.{eq_of_mul-eq-mul_right}
@@ -65,8 +65,8 @@ pub or_split : {A : Type 0} (a b : Bool) → (T a → A) → (T b → A) → T (
 or_split true b f g t = f tt
 or_split false b f g t = g t
 
-lt-or-eq : (p q : ℕ) → (ltb p q || (eqb p q && true)) ≡ leb p q
-lt-or-eq p q = same_test (ltb p q || (eqb p q && true)) (leb p q)
+lt_or_eq : (p q : ℕ) → (ltb p q || (eqb p q && true)) ≡ leb p q
+lt_or_eq p q = same_test (ltb p q || (eqb p q && true)) (leb p q)
     (or_split (ltb p q) (eqb p q && true) (λ t. le→leb p q (le_of_lt (ltb→lt p q t)))
     (λ t. le→leb p q (le_of_eq (eqb→eq p q (and_l (eqb p q) true t)))))
     (λ t. go (eq-or-lt_of_le (leb→le p q t)))
@@ -83,20 +83,20 @@ zeros p q = same_test (eqb p q && eqb p 0) (eqb p 0 && eqb q 0)
     (λ t. let y = eqb→eq p 0 (and_l (eqb p 0) (eqb q 0) t) in let z = eqb→eq q 0 (and_r (eqb p 0) (eqb q 0) t) in
     and_i (eqb p q) (eqb p 0) (eq→eqb (y ∙ sym z)) (eq→eqb y))
 
-some-or-zeros : (p q : ℕ) → T (ltb 0 (p + q) || (eqb p q && eqb p 0))
-some-or-zeros zero zero = tt
-some-or-zeros (suc p) q = or_l (ltb 0 (suc p + q)) (eqb (suc p) q && eqb (suc p) 0) (lt→ltb 0 (suc p + q) (omega arith))
-some-or-zeros zero (suc q) =
+some_or_zeros : (p q : ℕ) → T (ltb 0 (p + q) || (eqb p q && eqb p 0))
+some_or_zeros zero zero = tt
+some_or_zeros (suc p) q = or_l (ltb 0 (suc p + q)) (eqb (suc p) q && eqb (suc p) 0) (lt→ltb 0 (suc p + q) (omega arith))
+some_or_zeros zero (suc q) =
     or_l (ltb 0 (zero + suc q)) (eqb zero (suc q) && eqb zero 0) (lt→ltb 0 (zero + suc q) (omega arith))
 
-below-or-level : (s : Bool) (p : ℕ) (t : Bool) (q : ℕ) → (below s p t q || level s p t q) ≡ at_most s p t q
-below-or-level false p false q = lt-or-eq p q
-below-or-level false p true q = zeros p q
-below-or-level true p false q =
-    same_test (ltb 0 (p + q) || (eqb p q && eqb p 0)) true (λ t. tt) (λ t. some-or-zeros p q)
-below-or-level true p true q =
+below_or_level : (s : Bool) (p : ℕ) (t : Bool) (q : ℕ) → (below s p t q || level s p t q) ≡ at_most s p t q
+below_or_level false p false q = lt_or_eq p q
+below_or_level false p true q = zeros p q
+below_or_level true p false q =
+    same_test (ltb 0 (p + q) || (eqb p q && eqb p 0)) true (λ t. tt) (λ t. some_or_zeros p q)
+below_or_level true p true q =
     ap (λ (x : Bool). ltb q p || (x && true))
-    (same_test (eqb p q) (eqb q p) (λ t. eq→eqb (sym (eqb→eq p q t))) (λ t. eq→eqb (sym (eqb→eq q p t)))) ∙ lt-or-eq q p
+    (same_test (eqb p q) (eqb q p) (λ t. eq→eqb (sym (eqb→eq p q t))) (λ t. eq→eqb (sym (eqb→eq q p t)))) ∙ lt_or_eq q p
 
 -- ---- two finite values
 
@@ -121,49 +121,49 @@ module _ (s : Bool) (a c : ℕ) (t : Bool) (b d : ℕ) (C : 0 < c) (D : 0 < d) w
       (ap (λ (w : ℕ). m * l * w) (mul_comm c d) ∙ cross m r b d c l h ∙ ap (λ (w : ℕ). b * c * w) (mul_comm r l))
       ∙ sym (scale (l * r) (mul-pos L R) s (a * d) t (b * c))
 
-  pub lt-value : (x y : Float) → HasValue x s a c → HasValue y t b d → lt x y ≡ below s (a * d) t (b * c)
+  pub lt_value : (x y : Float) → HasValue x s a c → HasValue y t b d → lt x y ≡ below s (a * d) t (b * c)
   unfolding lt
-  lt-value nan y h k = absurd h
-  lt-value (inf u) y h k = absurd h
-  lt-value (fin u m e) nan h k = absurd k
-  lt-value (fin u m e) (inf v) h k = absurd k
-  lt-value (fin u m e) (fin v n g) h k =
+  lt_value nan y h k = absurd h
+  lt_value (inf u) y h k = absurd h
+  lt_value (fin u m e) nan h k = absurd k
+  lt_value (fin u m e) (inf v) h k = absurd k
+  lt_value (fin u m e) (fin v n g) h k =
       by_value below below-mul u v (m * up e) (down e) (n * up g) (down g) (down_pos e) (down_pos g) h.0 k.0
       h.1 k.1
 
-  pub eq-value : (x y : Float) → HasValue x s a c → HasValue y t b d → eq x y ≡ level s (a * d) t (b * c)
+  pub eq_value : (x y : Float) → HasValue x s a c → HasValue y t b d → eq x y ≡ level s (a * d) t (b * c)
   unfolding eq
-  eq-value nan y h k = absurd h
-  eq-value (inf u) y h k = absurd h
-  eq-value (fin u m e) nan h k = absurd k
-  eq-value (fin u m e) (inf v) h k = absurd k
-  eq-value (fin u m e) (fin v n g) h k =
+  eq_value nan y h k = absurd h
+  eq_value (inf u) y h k = absurd h
+  eq_value (fin u m e) nan h k = absurd k
+  eq_value (fin u m e) (inf v) h k = absurd k
+  eq_value (fin u m e) (fin v n g) h k =
       by_value level level-mul u v (m * up e) (down e) (n * up g) (down g) (down_pos e) (down_pos g) h.0 k.0
       h.1 k.1
 
-  pub le-value : (x y : Float) → HasValue x s a c → HasValue y t b d → le x y ≡ at_most s (a * d) t (b * c)
+  pub le_value : (x y : Float) → HasValue x s a c → HasValue y t b d → le x y ≡ at_most s (a * d) t (b * c)
   unfolding le
-  le-value x y h k =
-      ap (λ (w : Bool). w || eq x y) (lt-value x y h k)
-      ∙ ap (λ (w : Bool). below s (a * d) t (b * c) || w) (eq-value x y h k)
-      ∙ below-or-level s (a * d) t (b * c)
+  le_value x y h k =
+      ap (λ (w : Bool). w || eq x y) (lt_value x y h k)
+      ∙ ap (λ (w : Bool). below s (a * d) t (b * c) || w) (eq_value x y h k)
+      ∙ below_or_level s (a * d) t (b * c)
 
 -- neither is negative
 module _ (x y : Float) (a c b d : ℕ) (C : 0 < c) (D : 0 < d) (h : HasValue x false a c) (k : HasValue y false b d) where
-  pub le-positive : le x y ≡ leb (a * d) (b * c)
-  le-positive = le-value false a c false b d C D x y h k
+  pub le_positive : le x y ≡ leb (a * d) (b * c)
+  le_positive = le_value false a c false b d C D x y h k
 
 -- ---- an infinity beside a finite value, and a NaN beside any
 
-pub inf-lt : (s t : Bool) (n : ℕ) (d : ℤ) → lt (inf s) (fin t n d) ≡ s
+pub inf_lt : (s t : Bool) (n : ℕ) (d : ℤ) → lt (inf s) (fin t n d) ≡ s
 unfolding lt
-inf-lt s t n d = refl
+inf_lt s t n d = refl
 
-pub inf-le : (s t : Bool) (n : ℕ) (d : ℤ) → le (inf s) (fin t n d) ≡ s
+pub inf_le : (s t : Bool) (n : ℕ) (d : ℤ) → le (inf s) (fin t n d) ≡ s
 unfolding le
-inf-le true t n d = refl
-inf-le false t n d = refl
+inf_le true t n d = refl
+inf_le false t n d = refl
 
-pub nan-le : (y : Float) → le nan y ≡ false
+pub nan_le : (y : Float) → le nan y ≡ false
 unfolding le
-nan-le y = refl
+nan_le y = refl

@@ -13,38 +13,38 @@ use lib.Ieee.Fits.{and_l, and_r, up_pos, down_pos}
 use lib.Ieee.Exact.{HasValue, round_exact}
 use lib.Ieee.Nearest.{div_same}
 use lib.Ieee.Back.{round_whole}
-use Rattle.floats.proofs.Order.{lt-value}
+use Rattle.floats.proofs.Order.{lt_value}
 
 -- ---- what a value that fits its format is made of
 
-pub fits-small : (f : Format) (s : Bool) (m : ℕ) (e : ℤ) → T (fits f (fin s m e)) → m < 2 ^ prec f
+pub fits_small : (f : Format) (s : Bool) (m : ℕ) (e : ℤ) → T (fits f (fin s m e)) → m < 2 ^ prec f
 unfolding fits
-fits-small f s zero e t = pow_pos (prec f)
-fits-small f s (suc m) e t =
+fits_small f s zero e t = pow_pos (prec f)
+fits_small f s (suc m) e t =
     ltb→lt (suc m) (2 ^ prec f) (and_r (eqb (suc m % 2) 1) (ltb (suc m) (2 ^ prec f))
     (and_l (eqb (suc m % 2) 1 && ltb (suc m) (2 ^ prec f)) (leb (down e) (2 ^ low f))
     (and_l (eqb (suc m % 2) 1 && ltb (suc m) (2 ^ prec f) && leb (down e) (2 ^ low f))
     (ltb (suc m * up e) (2 ^ suc (emax f) * down e)) t)))
 
-pub fits-down : (f : Format) (s : Bool) (m : ℕ) (e : ℤ) → T (fits f (fin s m e)) → down e ≤ 2 ^ low f
+pub fits_down : (f : Format) (s : Bool) (m : ℕ) (e : ℤ) → T (fits f (fin s m e)) → down e ≤ 2 ^ low f
 unfolding fits
-fits-down f s zero e t =
+fits_down f s zero e t =
     le_trans (subst (λ (x : ℕ). x ≤ up e * down e) (one-mul (down e)) (mul-le-mul_right (down e) (up_pos e)))
     (le_trans (le_of_eq (eqb→eq (up e * down e) 1 t)) (pow_pos (low f)))
-fits-down f s (suc m) e t =
+fits_down f s (suc m) e t =
     leb→le (down e) (2 ^ low f) (and_r (eqb (suc m % 2) 1 && ltb (suc m) (2 ^ prec f)) (leb (down e) (2 ^ low f))
     (and_l (eqb (suc m % 2) 1 && ltb (suc m) (2 ^ prec f) && leb (down e) (2 ^ low f))
     (ltb (suc m * up e) (2 ^ suc (emax f) * down e)) t))
 
 -- ---- a whole number as a double
 
-pub ofInt-value : (n : ℕ) → n ≤ 2 ^ 53 → HasValue (of_int binary64 (pos n)) false n 1
+pub of_int_value : (n : ℕ) → n ≤ 2 ^ 53 → HasValue (of_int binary64 (pos n)) false n 1
 unfolding of_int
-ofInt-value n h = round_whole binary64 false n h
+of_int_value n h = round_whole binary64 false n h
 
-pub ofInt-negative : (n : ℕ) → suc n ≤ 2 ^ 53 → HasValue (of_int binary64 (negsuc n)) true (suc n) 1
+pub of_int_negative : (n : ℕ) → suc n ≤ 2 ^ 53 → HasValue (of_int binary64 (negsuc n)) true (suc n) 1
 unfolding of_int
-ofInt-negative n h = round_whole binary64 true (suc n) h
+of_int_negative n h = round_whole binary64 true (suc n) h
 
 -- ---- a product by 2 ^ t is exact, subnormal factors included, unless it overflows
 
@@ -52,9 +52,9 @@ ofInt-negative n h = round_whole binary64 true (suc n) h
 abbrev pub InUnits : Format → ℤ → ℕ → Type 0
 InUnits f e j = 2 ^ low f * up e ≡ 2 ^ j * down e
 
-pub in-units : (f : Format) (e : ℤ) → down e ≤ 2 ^ low f → (j : ℕ) × InUnits f e j
-in-units f (pos k) h = (low f + k, sym (pow-add 2 (low f) k) ∙ sym (mul-one (2 ^ (low f + k))))
-in-units f (negsuc k) h =
+pub in_units : (f : Format) (e : ℤ) → down e ≤ 2 ^ low f → (j : ℕ) × InUnits f e j
+in_units f (pos k) h = (low f + k, sym (pow-add 2 (low f) k) ∙ sym (mul-one (2 ^ (low f + k))))
+in_units f (negsuc k) h =
     let more : suc (low f) ≤ suc k → ⊥ = λ g. not-le_of_lt (pow-lt g) h in
     let l : suc k ≤ low f = le_of_suc-le-suc (lt_of_not-le more) in (
       low f - suc k,
@@ -62,15 +62,15 @@ in-units f (negsuc k) h =
           ∙ pow-add 2 (low f - suc k) (suc k),
     )
 
-unlike-plus : (s : Bool) → unlike s false ≡ s
-unlike-plus true = refl
-unlike-plus false = refl
+unlike_plus : (s : Bool) → unlike s false ≡ s
+unlike_plus true = refl
+unlike_plus false = refl
 
-mul-pow-is : (f : Format) (s : Bool) (m : ℕ) (e : ℤ) (t : ℕ)
+mul_pow_is : (f : Format) (s : Bool) (m : ℕ) (e : ℤ) (t : ℕ)
     → mul f (fin s m e) (fin false 1 (pos t)) ≡ round f s (m * up e * 2 ^ t) (down e)
 unfolding mul
-mul-pow-is f s m e t =
-    ap (λ (x : Bool). round f x (m * up e * (1 * 2 ^ t)) (down e * 1)) (unlike-plus s)
+mul_pow_is f s m e t =
+    ap (λ (x : Bool). round f x (m * up e * (1 * 2 ^ t)) (down e * 1)) (unlike_plus s)
     ∙ ap (λ (x : ℕ). round f s (m * up e * x) (down e * 1)) (one-mul (2 ^ t))
     ∙ ap (λ (x : ℕ). round f s (m * up e * 2 ^ t) x) (mul-one (down e))
 
@@ -78,7 +78,7 @@ module _ (f : Format) (s : Bool) (m : ℕ) (e : ℤ) (t : ℕ) (fit : T (fits f 
     (room : m * up e * 2 ^ t < 2 ^ suc (emax f) * down e) where
   shifted-value : HasValue (round f s (m * up e * 2 ^ t) (down e)) s (m * up e * 2 ^ t) (down e)
   shifted-value =
-      let u = in-units f e (fits-down f s m e fit) in
+      let u = in_units f e (fits_down f s m e fit) in
       let j = u.0 in
       let same : m * up e * 2 ^ t * 2 ^ low f ≡ m * 2 ^ (j + t) * down e =
       simp (mul_assoc, mul_comm, mul_left_comm, pow-add)
@@ -87,11 +87,11 @@ module _ (f : Format) (s : Bool) (m : ℕ) (e : ℤ) (t : ℕ) (fit : T (fits f 
       subst (λ (x : ℕ). x < 2 ^ (low f + suc (emax f)) * down e) same
       (subst (λ (x : ℕ). m * up e * 2 ^ t * 2 ^ low f < x) (simp (mul_assoc, mul_comm, mul_left_comm, pow-add))
       (mul-lt-mul_of_pos_right room (pow_pos (low f)))) in
-      round_exact f s (m * up e * 2 ^ t) (down e) m (j + t) (down_pos e) (fits-small f s m e fit)
+      round_exact f s (m * up e * 2 ^ t) (down e) m (j + t) (down_pos e) (fits_small f s m e fit)
       (lt_of_mul-lt-mul_right (down e) less) same
 
-  pub mul-pow-value : HasValue (mul f (fin s m e) (fin false 1 (pos t))) s (m * up e * 2 ^ t) (down e)
-  mul-pow-value = subst (λ (x : Float). HasValue x s (m * up e * 2 ^ t) (down e)) (sym (mul-pow-is f s m e t))
+  pub mul_pow_value : HasValue (mul f (fin s m e) (fin false 1 (pos t))) s (m * up e * 2 ^ t) (down e)
+  mul_pow_value = subst (λ (x : Float). HasValue x s (m * up e * 2 ^ t) (down e)) (sym (mul_pow_is f s m e t))
       shifted-value
 
 -- ---- a double cut to a whole number
@@ -105,36 +105,36 @@ pub record Cut (x : Float) (a c : ℕ) : Type 0 where
 capped : (w p : ℕ) → w < p → min w (p - 1) ≡ w
 capped w p h = omega arith
 
-whole-value : (x : Float) (a c : ℕ) → 0 < c → HasValue x false a c → a < 2 ^ 64 * c → to_unsigned 64 x ≡ a / c
+whole_value : (x : Float) (a c : ℕ) → 0 < c → HasValue x false a c → a < 2 ^ 64 * c → to_unsigned 64 x ≡ a / c
 unfolding to_unsigned
-whole-value nan a c C h l = absurd h
-whole-value (inf s) a c C h l = absurd h
-whole-value (fin true m e) a c C h l = absurd (true≢false h.0)
-whole-value (fin false m e) a c C h l =
+whole_value nan a c C h l = absurd h
+whole_value (inf s) a c C h l = absurd h
+whole_value (fin true m e) a c C h l = absurd (true≢false h.0)
+whole_value (fin false m e) a c C h l =
     ap (λ (w : ℕ). min w (2 ^ 64 - 1)) (div_same (m * up e) (down e) a c (down_pos e) C h.1)
     ∙ capped (a / c) (2 ^ 64) ((div-lt_iff_lt-mul C).1 l)
 
-negative-whole : (x : Float) (a c : ℕ) → HasValue x true a c → to_unsigned 64 x ≡ 0
+negative_whole : (x : Float) (a c : ℕ) → HasValue x true a c → to_unsigned 64 x ≡ 0
 unfolding to_unsigned
-negative-whole nan a c h = absurd h
-negative-whole (inf s) a c h = absurd h
-negative-whole (fin true m e) a c h = refl
-negative-whole (fin false m e) a c h = absurd (false≢true h.0)
+negative_whole nan a c h = absurd h
+negative_whole (inf s) a c h = absurd h
+negative_whole (fin true m e) a c h = refl
+negative_whole (fin false m e) a c h = absurd (false≢true h.0)
 
 -- a value that is not below 0, -0 included, and below 2 ^ 64
-pub cut-value : (x : Float) (s : Bool) (a c : ℕ) → 0 < c → HasValue x s a c → (s ≡ true → a ≡ 0) → a < 2 ^ 64 * c
+pub cut_value : (x : Float) (s : Bool) (a c : ℕ) → 0 < c → HasValue x s a c → (s ≡ true → a ≡ 0) → a < 2 ^ 64 * c
     → Cut x a c
-cut-value x false a c C h z l = record {
-  over = subst T (sym (lt-value true 1 1 false a c (zero-lt-suc 0) C (fin true 1 (pos 0)) x (refl, refl) h))
+cut_value x false a c C h z l = record {
+  over = subst T (sym (lt_value true 1 1 false a c (zero-lt-suc 0) C (fin true 1 (pos 0)) x (refl, refl) h))
       (lt→ltb 0 (1 * c + a * 1) (omega arith));
-  under = subst T (sym (lt-value false a c false (2 ^ 64) 1 C (zero-lt-suc 0) x (fin false 1 (pos 64)) h (refl, refl)))
+  under = subst T (sym (lt_value false a c false (2 ^ 64) 1 C (zero-lt-suc 0) x (fin false 1 (pos 64)) h (refl, refl)))
       (lt→ltb (a * 1) (2 ^ 64 * c) (omega arith));
-  whole = whole-value x a c C h l;
+  whole = whole_value x a c C h l;
 }
-cut-value x true a c C h z l = record {
-  over = subst T (sym (lt-value true 1 1 true a c (zero-lt-suc 0) C (fin true 1 (pos 0)) x (refl, refl) h))
+cut_value x true a c C h z l = record {
+  over = subst T (sym (lt_value true 1 1 true a c (zero-lt-suc 0) C (fin true 1 (pos 0)) x (refl, refl) h))
       (lt→ltb (a * 1) (1 * c) (omega (arith, z refl)));
-  under = subst T (sym (lt-value true a c false (2 ^ 64) 1 C (zero-lt-suc 0) x (fin false 1 (pos 64)) h (refl, refl)))
+  under = subst T (sym (lt_value true a c false (2 ^ 64) 1 C (zero-lt-suc 0) x (fin false 1 (pos 64)) h (refl, refl)))
       (lt→ltb 0 (a * 1 + 2 ^ 64 * c) (omega arith));
-  whole = negative-whole x a c h ∙ sym (ap (λ (w : ℕ). w / c) (z refl) ∙ zero-div c);
+  whole = negative_whole x a c h ∙ sym (ap (λ (w : ℕ). w / c) (z refl) ∙ zero-div c);
 }

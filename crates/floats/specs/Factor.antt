@@ -13,11 +13,11 @@ use Rattle.floats.specs.declared.Quantized.TheVariants.{Q16, Refused}
 abbrev pub scale : ℕ
 scale = 65536
 
-abbrev pub maxRelaxation : ℕ
-maxRelaxation = 1
+abbrev pub max_relaxation : ℕ
+max_relaxation = 1
 
-abbrev pub maxGain : ℕ
-maxGain = 8
+abbrev pub max_gain : ℕ
+max_gain = 8
 
 -- ---- q
 
@@ -29,16 +29,16 @@ within limit (fin s m e) = m == 0 || (not s && nat_le (m * up e) (limit * down e
 
 -- q is the factor × 65,536, rounded half away from zero. Of a factor that is not negative that is its floor after
 -- adding 1 / 2: num / den × scale + 1 / 2 is (2 × scale × num + den) / (2 × den).
-unfoldable pub roundedQ16 : Float → ℕ
-roundedQ16 x = (2 * scale * num x + den x) / (2 * den x)
+unfoldable pub rounded_q16 : Float → ℕ
+rounded_q16 x = (2 * scale * num x + den x) / (2 * den x)
 
 -- q of a factor in 0..limit, and that any other is refused
 unfoldable pub quantized : ℕ → Float → Quantized
-unfolding within roundedQ16
-quantized limit x = cond (within limit x) (Q16 (roundedQ16 x)) Refused
+unfolding within rounded_q16
+quantized limit x = cond (within limit x) (Q16 (rounded_q16 x)) Refused
 
--- The factor is q / 65,536. `fin false 1 (pos 16)` is `scale` as a double, and the quotient is exact (`factor-value` of
+-- The factor is q / 65,536. `fin false 1 (pos 16)` is `scale` as a double, and the quotient is exact (`factor_value` of
 -- proofs/Factor.antt).
-unfoldable pub factorOf : ℕ → Float
+unfoldable pub factor_of : ℕ → Float
 unfolding div of_int
-factorOf q = div binary64 (of_int binary64 (pos q)) (fin false 1 (pos 16))
+factor_of q = div binary64 (of_int binary64 (pos q)) (fin false 1 (pos 16))

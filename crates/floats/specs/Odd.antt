@@ -11,19 +11,19 @@ abbrev pub ceiling : ℕ → ℕ → ℕ
 ceiling num den = (num + (den - 1)) / den
 
 -- c where c is odd, and else c + 1
-abbrev pub oddFrom : ℕ → ℕ
-oddFrom c = c / 2 * 2 + 1
+abbrev pub odd_from : ℕ → ℕ
+odd_from c = c / 2 * 2 + 1
 
 -- the length for an estimate num / den
-unfoldable pub oddOf : ℕ → ℕ → ℕ
-oddOf num den = max 3 (oddFrom (ceiling num den))
+unfoldable pub odd_of : ℕ → ℕ → ℕ
+odd_of num den = max 3 (odd_from (ceiling num den))
 
 -- No length is answered for what is not a number and for estimates above 2 ^ 53, beyond every picture. A negative
 -- estimate gives 3.
-unfoldable pub oddLength : Float → OddLength
-unfolding oddOf
-oddLength nan = Beyond
-oddLength (inf true) = Length 3
-oddLength (inf false) = Beyond
-oddLength (fin true m e) = Length 3
-oddLength (fin false m e) = cond (nat_le (m * up e) (2 ^ 53 * down e)) (Length (oddOf (m * up e) (down e))) Beyond
+unfoldable pub odd_length : Float → OddLength
+unfolding odd_of
+odd_length nan = Beyond
+odd_length (inf true) = Length 3
+odd_length (inf false) = Beyond
+odd_length (fin true m e) = Length 3
+odd_length (fin false m e) = cond (nat_le (m * up e) (2 ^ 53 * down e)) (Length (odd_of (m * up e) (down e))) Beyond

@@ -3,8 +3,8 @@
 ghost use Rattle.std.specs.Prelude.{◌≡◌, ◌^◌, ◌≤◌, T};
 ghost use Rattle.std.specs.Float.Ieee.Scale.{finite};
 ghost use Rattle.std.specs.Float.Ieee.Positive.{num, den};
-ghost use Rattle.floats.specs.Factor.{maxRelaxation, maxGain, within, roundedQ16, quantized, factorOf};
-ghost use Rattle.floats.specs.Odd.{ceiling, oddFrom, oddLength};
+ghost use Rattle.floats.specs.Factor.{max_relaxation, max_gain, within, rounded_q16, quantized, factor_of};
+ghost use Rattle.floats.specs.Odd.{ceiling, odd_from, odd_length};
 
 // q, or that the factor is refused.
 #[derive(Drop)]
@@ -57,7 +57,7 @@ pub fn is_within(factor: f64, limit: u8) -> bool
 // q of a factor that is taken. The product is exact, so the rounding is the integers' alone.
 pub fn round_q16(factor: f64) -> u32
     requires { T (within 255 factor) }
-    ensures { result ≡ roundedQ16 factor }
+    ensures { result ≡ rounded_q16 factor }
 {
     let halves = std::num::truncating_f64_to_u64(factor * HALVES);
     ((halves + 1) / 2) as u32
@@ -76,21 +76,21 @@ fn quantize(factor: f64, limit: u8) -> Quantized
 
 // q of a relaxation.
 pub fn quantize_relaxation(factor: f64) -> Quantized
-    ensures { result ≡ quantized maxRelaxation factor }
+    ensures { result ≡ quantized max_relaxation factor }
 {
     quantize(factor, Quantized::MAX_RELAXATION)
 }
 
 // q of a gain.
 pub fn quantize_gain(factor: f64) -> Quantized
-    ensures { result ≡ quantized maxGain factor }
+    ensures { result ≡ quantized max_gain factor }
 {
     quantize(factor, Quantized::MAX_GAIN)
 }
 
 // The factor q / 65,536, exactly.
 pub fn factor_of_q16(q: u32) -> f64
-    ensures { result ≡ factorOf q }
+    ensures { result ≡ factor_of q }
 {
     q as f64 / SCALE
 }
@@ -110,14 +110,14 @@ fn raised(x: f64) -> u64
 // c where c is odd, and else c + 1.
 fn odd_from(c: u64) -> u64
     requires { c ≤ 2 ^ 53 }
-    ensures { result ≡ oddFrom c }
+    ensures { result ≡ odd_from c }
 {
     c / 2 * 2 + 1
 }
 
 // The smallest odd whole number that is at least 3 and at least the estimate.
 pub fn odd_length(estimate: f64) -> OddLength
-    ensures { result ≡ oddLength estimate }
+    ensures { result ≡ odd_length estimate }
 {
     if estimate <= 3.0 {
         return OddLength::Length(3);

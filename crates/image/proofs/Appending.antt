@@ -40,21 +40,21 @@ module _ {xs ys old mid new : List ℕ} {at e f : ℕ} (within : at ≤ length o
       }
 
 -- all that was put is at the front
-pub appended-front : {xs old new : List ℕ} {e : ℕ} → Appended xs 0 old new e → new ≡ xs ++ drop (length xs) old
-appended-front {xs} {old} A =
+pub appended_front : {xs old new : List ℕ} {e : ℕ} → Appended xs 0 old new e → new ≡ xs ++ drop (length xs) old
+appended_front {xs} {old} A =
     let e : 0 + length xs ≡ length xs = omega arith in
     A.bytes ∙ ap (λ (n : ℕ). xs ++ drop n old) e
 
-pub front-put : {xs old new : List ℕ} {e : ℕ} → e ≡ length xs → new ≡ xs ++ drop (length xs) old
+pub front_put : {xs old new : List ℕ} {e : ℕ} → e ≡ length xs → new ≡ xs ++ drop (length xs) old
     → Appended xs 0 old new e
-front-put {xs} {old} is e =
+front_put {xs} {old} is e =
     let k : length xs ≡ 0 + length xs = omega arith in
     record { behind = is ∙ k; bytes = e ∙ ap (λ (n : ℕ). xs ++ drop n old) k }
 
 -- a part up to e that has come back as ys
-pub part-put : (at e : ℕ) (old ys : List ℕ) → at ≤ e → length ys ≡ e - at
+pub part_put : (at e : ℕ) (old ys : List ℕ) → at ≤ e → length ys ≡ e - at
     → Appended ys at old (take at old ++ (ys ++ drop (e - at) (drop at old))) e
-part-put at e old ys h same =
+part_put at e old ys h same =
     record {
       behind = omega arith;
       bytes =
@@ -63,8 +63,8 @@ part-put at e old ys h same =
     }
 
 -- room for k more, where there was room for all
-pub appended-room : {xs old new : List ℕ} {e : ℕ} (k : ℕ) → Appended xs 0 old new e → length xs + k ≤ length old
+pub appended_room : {xs old new : List ℕ} {e : ℕ} (k : ℕ) → Appended xs 0 old new e → length xs + k ≤ length old
     → e + k ≤ length new
-appended-room {xs} {old} {new} k A h =
-    let a = ap length (appended-front A) ∙ length-append xs (drop (length xs) old) in
+appended_room {xs} {old} {new} k A h =
+    let a = ap length (appended_front A) ∙ length-append xs (drop (length xs) old) in
     omega (arith, a, length-drop (length xs) old, A.behind)

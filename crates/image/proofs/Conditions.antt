@@ -1,7 +1,7 @@
 -- A refusal is given in its condition and otherwise never: what a chain of tests gives is the first match of the list
--- of its conditions (`match-test`, `match-unless`, `match-then`), which no other number is (`exactly`), least of all
--- one that no condition has (`not-given`); so is the number of a call's decision (`decided-exactly`). The lists of 1 to
--- 6 (`layout-matches`, `pair_matches`), and what is accepted (`layout-iff`, `pair-iff`).
+-- of its conditions (`match_test`, `match_unless`, `match_then`), which no other number is (`exactly`), least of all
+-- one that no condition has (`not_given`); so is the number of a call's decision (`decided_exactly`). The lists of 1 to
+-- 6 (`layout_matches`, `pair_matches`), and what is accepted (`layout_iff`, `pair_iff`).
 use Prim.Native.Nat.{ℕ, zero, suc, ◌+◌, ◌*◌, ◌-◌}
 use native.Mathlib.Omega.{arith}
 use mathlib.Core.Bool.{Bool, true, false, not, cond}
@@ -11,23 +11,23 @@ use mathlib.Core.Logic.{inl, inr, ◌↔◌}
 use mathlib.Core.Path.{◌≡◌, refl, sym, subst, ◌∙◌}
 use lib.Dec.{T, eqb, ltb}
 use borrow.Author.Tests.{eq-eqb}
-use Rattle.numbers.proofs.Test.{false-not-true, eqb-iff, ltb_iff, or-iff, false-iff, and-false-iff}
+use Rattle.numbers.proofs.Test.{false_not_true, eqb_iff, ltb_iff, or_iff, false_iff, and_false_iff}
 use Rattle.image.specs.Conditions.{
   Refusal,
   given,
   Matches,
   FirstMatch,
   Exactly,
-  layoutConditions,
-  sizedConditions,
-  pairConditions,
+  layout_conditions,
+  sized_conditions,
+  pair_conditions,
 }
-use Rattle.image.specs.Refusal.{maxSide, firstRefusal, sidesRefusal, rowsRefusal, layoutRefusal}
-use Rattle.image.specs.Refusal.{destinationRefusal, sizesRefusal, sizedRefusal, pairRefusal, Laid, LaidPair}
+use Rattle.image.specs.Refusal.{max_side, first_refusal, sides_refusal, rows_refusal, layout_refusal}
+use Rattle.image.specs.Refusal.{destination_refusal, sizes_refusal, sized_refusal, pair_refusal, Laid, LaidPair}
 use Rattle.image.specs.Call.{Decision, unless, decided, number_of}
-use Rattle.image.proofs.Call.{number-decided, number-unless}
-use Rattle.image.proofs.Chain.{first-own}
-use Rattle.image.proofs.Pair.{laid-pair, accepted-pair}
+use Rattle.image.proofs.Call.{number_decided, number_unless}
+use Rattle.image.proofs.Chain.{first_own}
+use Rattle.image.proofs.Pair.{laid_pair, accepted_pair}
 use Rattle.image.proofs.Refusal.{laid, accepted}
 
 -- ---- no two numbers match
@@ -49,14 +49,14 @@ pub match_none : FirstMatch [] 0
 match_none = record { matches = refl }
 
 module _ {rs : List Refusal} {C : Type 0} (number : ℕ) {n : ℕ} (rest : FirstMatch rs n) where
-  pub match-test : {t : Bool} → (t ≡ true) ↔ C → FirstMatch (given number C ∷ rs) (cond t number n)
-  match-test {t = true} iff = record { matches = inl (iff.0 refl, refl) }
-  match-test {t = false} iff = record { matches = inr (λ c. false-not-true refl (iff.1 c), rest.matches) }
+  pub match_test : {t : Bool} → (t ≡ true) ↔ C → FirstMatch (given number C ∷ rs) (cond t number n)
+  match_test {t = true} iff = record { matches = inl (iff.0 refl, refl) }
+  match_test {t = false} iff = record { matches = inr (λ c. false_not_true refl (iff.1 c), rest.matches) }
 
   -- by a test that must hold
-  pub match-unless : {t : Bool} → (t ≡ false) ↔ C → FirstMatch (given number C ∷ rs) (cond t n number)
-  match-unless {t = true} iff = record { matches = inr (λ c. false-not-true (iff.1 c) refl, rest.matches) }
-  match-unless {t = false} iff = record { matches = inl (iff.0 refl, refl) }
+  pub match_unless : {t : Bool} → (t ≡ false) ↔ C → FirstMatch (given number C ∷ rs) (cond t n number)
+  match_unless {t = true} iff = record { matches = inr (λ c. false_not_true (iff.1 c) refl, rest.matches) }
+  match_unless {t = false} iff = record { matches = inl (iff.0 refl, refl) }
 
 -- none of the numbers is 0
 abbrev pub Numbered : List Refusal → Type 0
@@ -73,8 +73,8 @@ abbrev pub Without : ℕ → List Refusal → Type 0
 Without n [] = T (ltb 0 n)
 Without n (r ∷ rs) = T (not (eqb n r.number)) × Without n rs
 
-pub not-given : {rs : List Refusal} {refusal : ℕ} → FirstMatch rs refusal → (n : ℕ) → Without n rs → refusal ≡ n → ⊥
-not-given {rs} m n other e = go rs other (subst (FirstMatch rs) e m).matches
+pub not_given : {rs : List Refusal} {refusal : ℕ} → FirstMatch rs refusal → (n : ℕ) → Without n rs → refusal ≡ n → ⊥
+not_given {rs} m n other e = go rs other (subst (FirstMatch rs) e m).matches
   where
     go : (rs : List Refusal) → Without n rs → Matches rs n → ⊥
     go [] other e = some n other e
@@ -83,72 +83,72 @@ not-given {rs} m n other e = go rs other (subst (FirstMatch rs) e m).matches
 
 -- one list after the other
 then : (rs ss : List Refusal) (a b : ℕ) → Numbered rs → Matches rs a → Matches ss b
-    → Matches (rs ++ ss) (firstRefusal a b)
+    → Matches (rs ++ ss) (first_refusal a b)
 then [] ss a b ok e f = rw e f
 then (r ∷ rs) ss a b ok (inl m) f =
-    inl (m.0, first-own a b (λ e. some r.number ok.0 (sym m.1 ∙ e)) ∙ m.1)
+    inl (m.0, first_own a b (λ e. some r.number ok.0 (sym m.1 ∙ e)) ∙ m.1)
 then (r ∷ rs) ss a b ok (inr m) f = inr (m.0, then rs ss a b ok.1 m.1 f)
 
-pub match-then : {rs ss : List Refusal} {a b : ℕ} → FirstMatch rs a → Numbered rs → FirstMatch ss b
-    → FirstMatch (rs ++ ss) (firstRefusal a b)
-match-then {rs} {ss} {a} {b} m ok k = record { matches = then rs ss a b ok m.matches k.matches }
+pub match_then : {rs ss : List Refusal} {a b : ℕ} → FirstMatch rs a → Numbered rs → FirstMatch ss b
+    → FirstMatch (rs ++ ss) (first_refusal a b)
+match_then {rs} {ss} {a} {b} m ok k = record { matches = then rs ss a b ok m.matches k.matches }
 
 -- ---- a call's decision: its number
 
 module _ {R : Type 0} {rs : List Refusal} {refusal : ℕ} (m : FirstMatch rs refusal) where
-  pub decided-exactly : (found : R) → Exactly rs (number_of (decided refusal found))
-  decided-exactly found = exactly (subst (FirstMatch rs) (sym (number-decided refusal found)) m)
+  pub decided_exactly : (found : R) → Exactly rs (number_of (decided refusal found))
+  decided_exactly found = exactly (subst (FirstMatch rs) (sym (number_decided refusal found)) m)
 
   -- .. and what else is decided
-  pub match-unless-decided : {ss : List Refusal} → Numbered rs → (next : Decision R) → FirstMatch ss (number_of next)
+  pub match_unless_decided : {ss : List Refusal} → Numbered rs → (next : Decision R) → FirstMatch ss (number_of next)
       → FirstMatch (rs ++ ss) (number_of (unless refusal next))
-  match-unless-decided {ss} ok next k =
-      subst (FirstMatch (rs ++ ss)) (sym (number-unless refusal next)) (match-then m ok k)
+  match_unless_decided {ss} ok next k =
+      subst (FirstMatch (rs ++ ss)) (sym (number_unless refusal next)) (match_then m ok k)
 
 -- ---- 1 to 6
 
 module _ (len width height stride : ℕ) where
-  pub layout-matches : FirstMatch (layoutConditions len width height stride) (layoutRefusal len width height stride)
-  unfolding layoutRefusal sidesRefusal rowsRefusal
-  layout-matches =
-      match-then
-      (match-test 1
-      (match-test 2 match_none (or-iff _ _ (ltb_iff maxSide width) (ltb_iff maxSide height)))
-      (or-iff _ _ (eqb-iff width 0) (eqb-iff height 0)))
+  pub layout_matches : FirstMatch (layout_conditions len width height stride) (layout_refusal len width height stride)
+  unfolding layout_refusal sides_refusal rows_refusal
+  layout_matches =
+      match_then
+      (match_test 1
+      (match_test 2 match_none (or_iff _ _ (ltb_iff max_side width) (ltb_iff max_side height)))
+      (or_iff _ _ (eqb_iff width 0) (eqb_iff height 0)))
       (tt, (tt, tt))
-      (match-test 3 (match-test 4 match_none (ltb_iff len (stride * (height - 1) + width))) (ltb_iff stride width))
+      (match_test 3 (match_test 4 match_none (ltb_iff len (stride * (height - 1) + width))) (ltb_iff stride width))
 
-  pub layout-numbered : Numbered (layoutConditions len width height stride)
-  layout-numbered = (tt, (tt, (tt, (tt, tt))))
+  pub layout_numbered : Numbered (layout_conditions len width height stride)
+  layout_numbered = (tt, (tt, (tt, (tt, tt))))
 
   -- what is accepted, and the other way round
-  pub layout-iff : (layoutRefusal len width height stride ≡ 0) ↔ Laid len width height stride
-  layout-iff = (laid, accepted)
+  pub layout_iff : (layout_refusal len width height stride ≡ 0) ↔ Laid len width height stride
+  layout_iff = (laid, accepted)
 
-pub sized-matches : (dstLen dstWidth dstHeight dstStride w h : ℕ)
-    → FirstMatch (sizedConditions dstLen dstWidth dstHeight dstStride w h)
-    (sizedRefusal dstLen dstWidth dstHeight dstStride w h)
-unfolding sizedRefusal destinationRefusal sizesRefusal
-sized-matches dstLen dstWidth dstHeight dstStride w h =
-    match-then
-    (match-unless 5 match_none
-    (false-iff _
-    (Iff.trans (eqb-iff (layoutRefusal dstLen dstWidth dstHeight dstStride) 0)
-    (layout-iff dstLen dstWidth dstHeight dstStride))))
+pub sized_matches : (dst_len dst_width dst_height dst_stride w h : ℕ)
+    → FirstMatch (sized_conditions dst_len dst_width dst_height dst_stride w h)
+    (sized_refusal dst_len dst_width dst_height dst_stride w h)
+unfolding sized_refusal destination_refusal sizes_refusal
+sized_matches dst_len dst_width dst_height dst_stride w h =
+    match_then
+    (match_unless 5 match_none
+    (false_iff _
+    (Iff.trans (eqb_iff (layout_refusal dst_len dst_width dst_height dst_stride) 0)
+    (layout_iff dst_len dst_width dst_height dst_stride))))
     (tt, tt)
-    (match-unless 6 match_none (and-false-iff _ _ (eqb-iff dstWidth w) (eqb-iff dstHeight h)))
+    (match_unless 6 match_none (and_false_iff _ _ (eqb_iff dst_width w) (eqb_iff dst_height h)))
 
-module _ (len width height stride dstLen dstWidth dstHeight dstStride : ℕ) where
-  pub pair_matches : FirstMatch (pairConditions len width height stride dstLen dstWidth dstHeight dstStride)
-      (pairRefusal len width height stride dstLen dstWidth dstHeight dstStride)
-  unfolding pairRefusal
+module _ (len width height stride dst_len dst_width dst_height dst_stride : ℕ) where
+  pub pair_matches : FirstMatch (pair_conditions len width height stride dst_len dst_width dst_height dst_stride)
+      (pair_refusal len width height stride dst_len dst_width dst_height dst_stride)
+  unfolding pair_refusal
   pair_matches =
-      match-then (layout-matches len width height stride) (layout-numbered len width height stride)
-      (sized-matches dstLen dstWidth dstHeight dstStride width height)
+      match_then (layout_matches len width height stride) (layout_numbered len width height stride)
+      (sized_matches dst_len dst_width dst_height dst_stride width height)
 
-  pub pair-numbered : Numbered (pairConditions len width height stride dstLen dstWidth dstHeight dstStride)
-  pair-numbered = (tt, (tt, (tt, (tt, (tt, (tt, tt))))))
+  pub pair_numbered : Numbered (pair_conditions len width height stride dst_len dst_width dst_height dst_stride)
+  pair_numbered = (tt, (tt, (tt, (tt, (tt, (tt, tt))))))
 
-  pub pair-iff : (pairRefusal len width height stride dstLen dstWidth dstHeight dstStride ≡ 0)
-      ↔ LaidPair len width height stride dstLen dstWidth dstHeight dstStride
-  pair-iff = (laid-pair, accepted-pair)
+  pub pair_iff : (pair_refusal len width height stride dst_len dst_width dst_height dst_stride ≡ 0)
+      ↔ LaidPair len width height stride dst_len dst_width dst_height dst_stride
+  pair_iff = (laid_pair, accepted_pair)

@@ -2,100 +2,100 @@
 use Prim.Native.Nat.{ℕ, ◌*◌, ◌-◌, ◌^◌}
 use mathlib.Core.List.{List, [], ◌∷◌}
 use mathlib.Core.Path.{◌≡◌, refl}
-use Rattle.image.specs.Refusal.{layoutRefusal, pairRefusal}
-use Rattle.image.specs.Picture.{pixelOf, row_of}
+use Rattle.image.specs.Refusal.{layout_refusal, pair_refusal}
+use Rattle.image.specs.Picture.{pixel_of, row_of}
 use Rattle.image.specs.declared.Pixel.TheVariants.{Value, Outside}
 
 -- 1 comes before 2, 2 before 3, 3 before 4
-empty-first : layoutRefusal 0 0 1025 0 ≡ 1
-unfolding layoutRefusal
-empty-first = refl
+empty_first : layout_refusal 0 0 1025 0 ≡ 1
+unfolding layout_refusal
+empty_first = refl
 
-large-first : layoutRefusal 0 1025 1 0 ≡ 2
-unfolding layoutRefusal
-large-first = refl
+large_first : layout_refusal 0 1025 1 0 ≡ 2
+unfolding layout_refusal
+large_first = refl
 
-stride-first : layoutRefusal 0 5 1 4 ≡ 3
-unfolding layoutRefusal
-stride-first = refl
+stride_first : layout_refusal 0 5 1 4 ≡ 3
+unfolding layout_refusal
+stride_first = refl
 
 -- side 1,024 is accepted, 1,025 gives 2
-largest : layoutRefusal (1024 * 1024) 1024 1024 1024 ≡ 0
-unfolding layoutRefusal
+largest : layout_refusal (1024 * 1024) 1024 1024 1024 ≡ 0
+unfolding layout_refusal
 largest = refl
 
-too_wide : layoutRefusal (1025 * 1024) 1025 1024 1025 ≡ 2
-unfolding layoutRefusal
+too_wide : layout_refusal (1025 * 1024) 1025 1024 1025 ≡ 2
+unfolding layout_refusal
 too_wide = refl
 
-too-high : layoutRefusal (1024 * 1025) 1024 1025 1024 ≡ 2
-unfolding layoutRefusal
-too-high = refl
+too_high : layout_refusal (1024 * 1025) 1024 1025 1024 ≡ 2
+unfolding layout_refusal
+too_high = refl
 
 -- the last row needs no bytes behind its pixels
-exact : layoutRefusal 11 3 3 4 ≡ 0
-unfolding layoutRefusal
+exact : layout_refusal 11 3 3 4 ≡ 0
+unfolding layout_refusal
 exact = refl
 
-one-short : layoutRefusal 10 3 3 4 ≡ 4
-unfolding layoutRefusal
-one-short = refl
+one_short : layout_refusal 10 3 3 4 ≡ 4
+unfolding layout_refusal
+one_short = refl
 
 -- a stride whose product wraps to 0 in a usize
-wrapping : layoutRefusal 1024 1 3 (2 ^ 63) ≡ 4
-unfolding layoutRefusal
+wrapping : layout_refusal 1024 1 3 (2 ^ 63) ≡ 4
+unfolding layout_refusal
 wrapping = refl
 
-widest-stride : layoutRefusal (2 ^ 63 - 1) 5 2 (2 ^ 64 - 1) ≡ 4
-unfolding layoutRefusal
-widest-stride = refl
+widest_stride : layout_refusal (2 ^ 63 - 1) 5 2 (2 ^ 64 - 1) ≡ 4
+unfolding layout_refusal
+widest_stride = refl
 
 -- a stride is not used in a picture of one row
-one-row : layoutRefusal 5 5 1 (2 ^ 64 - 1) ≡ 0
-unfolding layoutRefusal
-one-row = refl
+one_row : layout_refusal 5 5 1 (2 ^ 64 - 1) ≡ 0
+unfolding layout_refusal
+one_row = refl
 
 -- the source's number comes before the destination's 5, and 5 before 6
-source_first : pairRefusal 4 5 1 5 0 0 0 0 ≡ 4
-unfolding pairRefusal layoutRefusal
+source_first : pair_refusal 4 5 1 5 0 0 0 0 ≡ 4
+unfolding pair_refusal layout_refusal
 source_first = refl
 
-destination-next : pairRefusal 5 5 1 5 3 4 1 4 ≡ 5
-unfolding pairRefusal layoutRefusal
-destination-next = refl
+destination_next : pair_refusal 5 5 1 5 3 4 1 4 ≡ 5
+unfolding pair_refusal layout_refusal
+destination_next = refl
 
-sizes-last : pairRefusal 6 3 2 3 6 2 3 2 ≡ 6
-unfolding pairRefusal layoutRefusal
-sizes-last = refl
+sizes_last : pair_refusal 6 3 2 3 6 2 3 2 ≡ 6
+unfolding pair_refusal layout_refusal
+sizes_last = refl
 
-strides-differ : pairRefusal 6 3 2 3 11 3 2 8 ≡ 0
-unfolding pairRefusal layoutRefusal
-strides-differ = refl
+strides_differ : pair_refusal 6 3 2 3 11 3 2 8 ≡ 0
+unfolding pair_refusal layout_refusal
+strides_differ = refl
 
 bytes : List ℕ
 bytes = 1 ∷ 2 ∷ 3 ∷ 99 ∷ 4 ∷ 5 ∷ 6 ∷ []
 
-last-pixel : pixelOf bytes 3 2 4 2 1 ≡ Value 6
-unfolding bytes pixelOf layoutRefusal
-last-pixel = refl
+last_pixel : pixel_of bytes 3 2 4 2 1 ≡ Value 6
+unfolding bytes pixel_of layout_refusal
+last_pixel = refl
 
-between-rows : pixelOf bytes 3 2 4 3 0 ≡ Outside
-unfolding bytes pixelOf layoutRefusal
-between-rows = refl
+between_rows : pixel_of bytes 3 2 4 3 0 ≡ Outside
+unfolding bytes pixel_of layout_refusal
+between_rows = refl
 
-second-row : row_of bytes 3 2 4 1 ≡ 4 ∷ 5 ∷ 6 ∷ []
-unfolding bytes row_of layoutRefusal
-second-row = refl
+second_row : row_of bytes 3 2 4 1 ≡ 4 ∷ 5 ∷ 6 ∷ []
+unfolding bytes row_of layout_refusal
+second_row = refl
 
 no_row : row_of bytes 3 2 4 2 ≡ []
-unfolding bytes row_of layoutRefusal
+unfolding bytes row_of layout_refusal
 no_row = refl
 
 -- the smallest view with a byte beside its pixel, which the Rust reads (docs/DIFFERENCES.md)
-smallest-outside : pixelOf (7 ∷ 9 ∷ []) 1 1 2 1 0 ≡ Outside
-unfolding pixelOf layoutRefusal
-smallest-outside = refl
+smallest_outside : pixel_of (7 ∷ 9 ∷ []) 1 1 2 1 0 ≡ Outside
+unfolding pixel_of layout_refusal
+smallest_outside = refl
 
-smallest-no-row : row_of (7 ∷ 9 ∷ []) 1 1 2 1 ≡ []
-unfolding row_of layoutRefusal
-smallest-no-row = refl
+smallest_no_row : row_of (7 ∷ 9 ∷ []) 1 1 2 1 ≡ []
+unfolding row_of layout_refusal
+smallest_no_row = refl

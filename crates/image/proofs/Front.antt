@@ -1,6 +1,6 @@
--- Bytes at the front of a slice: room for them (`room-short`, `room_whole`, `room-matches`), that they are determined
--- (`front-one`), that a refusal keeps the slice (`counted-kept`), and the call as C has it (`counted-in-c`,
--- `refused-in-c`): the result, and how many they are.
+-- Bytes at the front of a slice: room for them (`room_short`, `room_whole`, `room_matches`), that they are determined
+-- (`front_one`), that a refusal keeps the slice (`counted_kept`), and the call as C has it (`counted_in_c`,
+-- `refused_in_c`): the result, and how many they are.
 use mathlib.Core.Path.{◌≡◌, refl, sym, ap, ◌∙◌}
 use mathlib.Core.List.{List, [], ◌∷◌}
 use Prim.Native.Nat.{ℕ, ◌≤◌, ◌<◌}
@@ -9,49 +9,49 @@ use borrow.Author.Tests.{lt-ltb, le-ltb}
 use lib.Dec.{ltb}
 use lib.ListN.{length, take, drop, length-append}
 use lib.Seq.{take_at}
-use Rattle.numbers.proofs.Test.{by-test, ap-cond, ltb_iff}
-use Rattle.image.specs.Call.{Decision, accepts, refuses, number_of, Outcome, withOuts, room_for, frontWrites}
+use Rattle.numbers.proofs.Test.{by_test, ap_cond, ltb_iff}
+use Rattle.image.specs.Call.{Decision, accepts, refuses, number_of, Outcome, WithOuts, room_for, FrontWrites}
 use Rattle.image.specs.Conditions.{FirstMatch, given}
-use Rattle.image.specs.Determined.{Writes-one}
-use Rattle.image.proofs.Call.{accepts-not-refuses, outcome-accepted}
-use Rattle.image.proofs.Conditions.{match_none, match-test}
-use Rattle.image.proofs.Same.{answers-alike}
+use Rattle.image.specs.Determined.{WritesOne}
+use Rattle.image.proofs.Call.{accepts_not_refuses, outcome_accepted}
+use Rattle.image.proofs.Conditions.{match_none, match_test}
+use Rattle.image.proofs.Same.{answers_alike}
 
 module _ (number : ℕ) {room : ℕ} (xs : List ℕ) where
-  pub room-short : room < length xs → room_for number room xs ≡ refuses number
-  room-short h = rw (lt-ltb room (length xs) h)
+  pub room_short : room < length xs → room_for number room xs ≡ refuses number
+  room_short h = rw (lt-ltb room (length xs) h)
 
   pub room_whole : length xs ≤ room → room_for number room xs ≡ accepts xs
   room_whole h = rw (le-ltb room (length xs) h)
 
-pub room-accepts : (number room : ℕ) (xs : List ℕ) {ys : List ℕ} → room_for number room xs ≡ accepts ys → xs ≡ ys
-room-accepts number room xs e =
-    by-test (ltb room (length xs)) (λ t. absurd (accepts-not-refuses (sym (rw t at e))))
+pub room_accepts : (number room : ℕ) (xs : List ℕ) {ys : List ℕ} → room_for number room xs ≡ accepts ys → xs ≡ ys
+room_accepts number room xs e =
+    by_test (ltb room (length xs)) (λ t. absurd (accepts_not_refuses (sym (rw t at e))))
     (λ t. let same = rw t at e in cc)
 
-pub room-matches : (number room : ℕ) (xs : List ℕ)
+pub room_matches : (number room : ℕ) (xs : List ℕ)
     → FirstMatch (given number (room < length xs) ∷ []) (number_of (room_for number room xs))
-room-matches number room xs =
-    rw (ap-cond number_of (ltb room (length xs)) (refuses number) (accepts xs))
-    (match-test number match_none (ltb_iff room (length xs)))
+room_matches number room xs =
+    rw (ap_cond number_of (ltb room (length xs)) (refuses number) (accepts xs))
+    (match_test number match_none (ltb_iff room (length xs)))
 
-pub front-one : Writes-one frontWrites
-front-one xs old new new' e f = e ∙ sym f
+pub front_one : WritesOne FrontWrites
+front_one xs old new new' e f = e ∙ sym f
 
 -- what was written, whatever the slice held behind it
-pub front-is : (xs old : List ℕ) {new : List ℕ} → frontWrites xs old new → take (length xs) new ≡ xs
-front-is xs old e = ap (take (length xs)) e ∙ take_at xs (drop (length xs) old) (length xs) refl
+pub front_is : (xs old : List ℕ) {new : List ℕ} → FrontWrites xs old new → take (length xs) new ≡ xs
+front_is xs old e = ap (take (length xs)) e ∙ take_at xs (drop (length xs) old) (length xs) refl
 
 -- two calls that decide the same: the answer is the same, and so are the bytes, whatever the slices held
-pub fronts-alike : {A : Type 0} {answers : Decision (List ℕ) → A} {decision decision' : Decision (List ℕ)}
+pub fronts_alike : {A : Type 0} {answers : Decision (List ℕ) → A} {decision decision' : Decision (List ℕ)}
     {old new old' new' : List ℕ} {answer answer' : A} → decision ≡ decision'
-    → Outcome decision answers frontWrites old new (tt {0}) (tt {0}) answer
-    → Outcome decision' answers frontWrites old' new' (tt {0}) (tt {0}) answer'
+    → Outcome decision answers FrontWrites old new (tt {0}) (tt {0}) answer
+    → Outcome decision' answers FrontWrites old' new' (tt {0}) (tt {0}) answer'
     → (answer ≡ answer')
     × ((xs : List ℕ) → decision ≡ accepts xs → take (length xs) new ≡ take (length xs) new')
-fronts-alike e o o' = (
-  answers-alike e o o',
-  λ xs is. front-is xs _ (o.written xs is) ∙ sym (front-is xs _ (o'.written xs (sym e ∙ is))),
+fronts_alike e o o' = (
+  answers_alike e o o',
+  λ xs is. front_is xs _ (o.written xs is) ∙ sym (front_is xs _ (o'.written xs (sym e ∙ is))),
 )
 
 -- ---- a call whose answer is how many bytes were written, or a number
@@ -63,13 +63,13 @@ counted (refuses number) = refuses number
 module _ {A : Type 0} {answers : Decision (List ℕ) → A} (of : A → Decision ℕ)
     (is : (d : Decision (List ℕ)) → of (answers d) ≡ counted d) {decision : Decision (List ℕ)}
     {old new : List ℕ} {answer : A}
-    (o : Outcome decision answers frontWrites old new (tt {0}) (tt {0}) answer) where
+    (o : Outcome decision answers FrontWrites old new (tt {0}) (tt {0}) answer) where
   said : of answer ≡ counted decision
   said = ap of o.answered ∙ is decision
 
   -- it fits
-  pub counted-fits : {n : ℕ} → length new ≡ length old → of answer ≡ accepts n → n ≤ length old
-  counted-fits {n} same e = go decision refl
+  pub counted_fits : {n : ℕ} → length new ≡ length old → of answer ≡ accepts n → n ≤ length old
+  counted_fits {n} same e = go decision refl
     where
       go : (d : Decision (List ℕ)) → decision ≡ d → n ≤ length old
       go (accepts xs) at =
@@ -77,43 +77,43 @@ module _ {A : Type 0} {answers : Decision (List ℕ) → A} (of : A → Decision
           let l : n ≡ length xs = cc in
           let all = sym same ∙ ap length (o.written xs at) ∙ length-append xs (drop (length xs) old) in
           omega arith
-      go (refuses number) at = absurd (accepts-not-refuses (sym e ∙ said ∙ ap counted at))
+      go (refuses number) at = absurd (accepts_not_refuses (sym e ∙ said ∙ ap counted at))
 
   -- a refusal leaves the slice as it was
-  pub counted-kept : {number : ℕ} → of answer ≡ refuses number → new ≡ old
-  counted-kept {number} e = go decision refl
+  pub counted_kept : {number : ℕ} → of answer ≡ refuses number → new ≡ old
+  counted_kept {number} e = go decision refl
     where
       go : (d : Decision (List ℕ)) → decision ≡ d → new ≡ old
-      go (accepts xs) at = absurd (accepts-not-refuses (sym (ap counted at) ∙ sym said ∙ e))
-      go (refuses k) at = o.dst-kept k at
+      go (accepts xs) at = absurd (accepts_not_refuses (sym (ap counted at) ∙ sym said ∙ e))
+      go (refuses k) at = o.dst_kept k at
 
   module _ (before : ℕ) where
     abbrev pub CountedInC : ℕ → ℕ → Type 0
     CountedInC after r =
-        Outcome decision number_of (withOuts frontWrites length) (old, before) (new, after) (tt {0}) (tt {0}) r
+        Outcome decision number_of (WithOuts FrontWrites length) (old, before) (new, after) (tt {0}) (tt {0}) r
 
-    pub counted-in-c : {n : ℕ} → of answer ≡ accepts n → CountedInC n 0
-    counted-in-c {n} e = go decision refl
+    pub counted_in_c : {n : ℕ} → of answer ≡ accepts n → CountedInC n 0
+    counted_in_c {n} e = go decision refl
       where
         go : (d : Decision (List ℕ)) → decision ≡ d → CountedInC n 0
         go (accepts xs) at =
             let found = sym e ∙ said ∙ ap counted at in
             let same : n ≡ length xs = cc in
-            outcome-accepted number_of (withOuts frontWrites length) (old, before) tt xs
+            outcome_accepted number_of (WithOuts FrontWrites length) (old, before) tt xs
             (new, n) tt at refl (o.written xs at, same)
-        go (refuses number) at = absurd (accepts-not-refuses (sym e ∙ said ∙ ap counted at))
+        go (refuses number) at = absurd (accepts_not_refuses (sym e ∙ said ∙ ap counted at))
 
-    pub refused-in-c : {number : ℕ} → of answer ≡ refuses number → CountedInC before number
-    refused-in-c {number} e = go decision refl
+    pub refused_in_c : {number : ℕ} → of answer ≡ refuses number → CountedInC before number
+    refused_in_c {number} e = go decision refl
       where
         go : (d : Decision (List ℕ)) → decision ≡ d → CountedInC before number
-        go (accepts xs) at = absurd (accepts-not-refuses (sym (ap counted at) ∙ sym said ∙ e))
+        go (accepts xs) at = absurd (accepts_not_refuses (sym (ap counted at) ∙ sym said ∙ e))
         go (refuses k) at =
             let found = sym e ∙ said ∙ ap counted at in
             let same : number ≡ k = cc in
             record {
               answered = rw at same;
-              written = λ found z. absurd (accepts-not-refuses (sym z ∙ at));
-              dst-kept = λ m z. rw (o.dst-kept m z) refl;
-              scratch-kept = λ _ _ _. refl;
+              written = λ found z. absurd (accepts_not_refuses (sym z ∙ at));
+              dst_kept = λ m z. rw (o.dst_kept m z) refl;
+              scratch_kept = λ _ _ _. refl;
             }

@@ -32,7 +32,7 @@ use denote.Struct.Rest.{all_own}
 use denote.Triple.End.{Kepts, lasts_of}
 use denote.Triple.Walked.{Goes-slice}
 use Rattle.walks.proofs.Forward.{Kind}
-use Rattle.walks.proofs.Parameters.{plain_of, taken-apart, watched, all-fields}
+use Rattle.walks.proofs.Parameters.{plain_of, taken-apart, watched, all_fields}
 use Rattle.image.specs.declared.view.Gray8View.{Gray8View}
 use Rattle.image.specs.declared.view.Gray8ViewMut.{Gray8ViewMut}
 use Rattle.image.specs.contracts.view.Gray8View as T₁
@@ -47,18 +47,18 @@ number = plain_of usize (ty_int w64) refl (vint w64) (uint_Tells w64) (λ M 𝓤
 abbrev pub Four : Type 0 → Type 0
 Four X = X × (X × (X × (X × Unit {0})))
 
-abbrev vals-of : Bor (List ℕ) → ℕ → ℕ → ℕ → Four (List Val)
-vals-of bytes w h s =
+abbrev vals_of : Bor (List ℕ) → ℕ → ℕ → ℕ → Four (List Val)
+vals_of bytes w h s =
     (slice_val bytes.ref_ptr (length bytes.now) ∷ [], (vint w64 w ∷ [], (vint w64 h ∷ [], (vint w64 s ∷ [], tt))))
 
-abbrev pub sizes-of : ℕ → ℕ → ℕ → ℕ → Four (List Val)
-sizes-of l w h s = (vint w64 l ∷ [], (vint w64 w ∷ [], (vint w64 h ∷ [], (vint w64 s ∷ [], tt))))
+abbrev pub sizes_of : ℕ → ℕ → ℕ → ℕ → Four (List Val)
+sizes_of l w h s = (vint w64 l ∷ [], (vint w64 w ∷ [], (vint w64 h ∷ [], (vint w64 s ∷ [], tt))))
 
 -- four numbers that fit own nothing
-pub sizes-made : {M : Type 1} {𝓤 : Ura M} (𝓛 : Logic 𝓤) (l w h s : ℕ) → l < 2 ^ 64
+pub sizes_made : {M : Type 1} {𝓤 : Ura M} (𝓛 : Logic 𝓤) (l w h s : ℕ) → l < 2 ^ 64
     → w < 2 ^ 64 → h < 2 ^ 64 → s < 2 ^ 64
-    → ent 𝓤 (emp 𝓤) (sem 𝓛 (owns (usize ∷ usize ∷ usize ∷ usize ∷ []) (l, (w, (h, (s, tt)))) (sizes-of l w h s)))
-sizes-made 𝓛 l w h s l-fits w_Fits h_fits s-fits =
+    → ent 𝓤 (emp 𝓤) (sem 𝓛 (owns (usize ∷ usize ∷ usize ∷ usize ∷ []) (l, (w, (h, (s, tt)))) (sizes_of l w h s)))
+sizes_made 𝓛 l w h s l-fits w_Fits h_fits s-fits =
     qed 𝓛 [] ∵ nothing ! $ owned ! usize (Is usize) (uint_Makes 𝓛 w64) s _ (refl, s-fits) $ fjoin ! $
     owned ! usize (Is usize) (uint_Makes 𝓛 w64) h _ (refl, h_fits) $ fjoin ! $
     owned ! usize (Is usize) (uint_Makes 𝓛 w64) w _ (refl, w_Fits) $ fjoin ! $
@@ -74,9 +74,9 @@ module _ {n : ℕ} (j : ℕ) (ok : Within n j) where
         slots = shr_slice j ok (λ _. u8) ∷ numbers;
         kepts = (yes, (yes, (yes, (yes, tt))));
         parts = λ κs x. (x.«data», (x.width, (x.height, (x.stride, tt))));
-        vals = λ κs x. vals-of x.«data» x.width x.height x.stride;
+        vals = λ κs x. vals_of x.«data» x.width x.height x.stride;
         rest = λ κs x. ftrue;
-        gives = λ 𝓛 κs x is. all-fields 𝓛 (T₁.the_type (named_lft n j ok κs)) (T₁'.the_laws (named_lft n j ok
+        gives = λ 𝓛 κs x is. all_fields 𝓛 (T₁.the_type (named_lft n j ok κs)) (T₁'.the_laws (named_lft n j ok
             κs)) (x.«data», (x.width, (x.height, (x.stride, tt)))) _;
         last = λ κs x ws. tt;
         says = λ {𝓤 = 𝓤} 𝓛 κs x ws. via 𝓤 (emp 𝓤) (top 𝓤 _) (𝓛.laws.⇛_intro (emp 𝓤));
@@ -88,9 +88,9 @@ module _ {n : ℕ} (j : ℕ) (ok : Within n j) where
         slots = mut_slice j ok (λ _. u8) ∷ numbers;
         kepts = (yes, (yes, (yes, (yes, tt))));
         parts = λ κs x. (x.«data», (x.width, (x.height, (x.stride, tt))));
-        vals = λ κs x. vals-of x.«data» x.width x.height x.stride;
+        vals = λ κs x. vals_of x.«data» x.width x.height x.stride;
         rest = λ κs x. ftrue;
-        gives = λ 𝓛 κs x is. all-fields 𝓛 (T₂.the_type (named_lft n j ok κs)) (T₂'.the_laws (named_lft n j ok
+        gives = λ 𝓛 κs x is. all_fields 𝓛 (T₂.the_type (named_lft n j ok κs)) (T₂'.the_laws (named_lft n j ok
             κs)) (x.«data», (x.width, (x.height, (x.stride, tt)))) _;
         last = λ κs x ws. (ws.0, tt);
         says = λ 𝓛 κs x ws. qed 𝓛
@@ -121,7 +121,7 @@ module _ {n : ℕ} (j : ℕ) (ok : Within n j) where
         let D = T₂.the_type (named_lft n j ok κs) in
         let L = T₂'.the_laws (named_lft n j ok κs) in
         qed 𝓛 (‵ ((T₂.the_row (named_lft n j ok κs)).own_val x (LL.val D L x ∷ [])) ∷ []) ∵ updating ! $
-        use1 𝓛 (‵ (all_own D.parts L (x.«data», (x.width, (x.height, (x.stride, tt))))) ⊛ ‵ ftrue) (all-fields
+        use1 𝓛 (‵ (all_own D.parts L (x.«data», (x.width, (x.height, (x.stride, tt))))) ⊛ ‵ ftrue) (all_fields
         𝓛 D L (x.«data», (x.width, (x.height, (x.stride, tt)))) _) $ split ! $ fsplit ! $ keep ! (0 ∷ []) $
         use1 𝓛 (later (‵ (left (((mut_slice {n = n} j ok (λ _. u8)).row κs).exit yes) x.«data» x.«data».now)))
         (Goes-slice 𝓛 n j ok (plain (λ _. u8)) κs x.«data» x.«data».now _ refl) $ await ! tt $ at_once ! $

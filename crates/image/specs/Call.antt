@@ -37,8 +37,8 @@ number_of (refuses number) = number
 
 -- a refusal that keeps scratch: ".. except that 11 and 12 leave scratch free"
 pub record KeepsScratch (number : ℕ) : Type 0 where
-  pub not-11 : number ≡ 11 → ⊥
-  pub not-12 : number ≡ 12 → ⊥
+  pub not_11 : number ≡ 11 → ⊥
+  pub not_12 : number ≡ 12 → ⊥
 
 -- "A refusal returns its number and changes neither destination nor scratch, except that 11 and 12 leave scratch free."
 -- An accepted call writes what `writes` says of what it found; scratch is then free. `answers` is the call's own type
@@ -47,20 +47,20 @@ pub record Outcome {R A D S : Type 0} (decision : Decision R) (answers : Decisio
     (old new : D) (scratch scratch' : S) (answer : A) : Type 0 where
   pub answered : answer ≡ answers decision
   pub written : (found : R) → decision ≡ accepts found → writes found old new
-  pub dst-kept : (number : ℕ) → decision ≡ refuses number → new ≡ old
-  pub scratch-kept : (number : ℕ) → decision ≡ refuses number → KeepsScratch number → scratch' ≡ scratch
+  pub dst_kept : (number : ℕ) → decision ≡ refuses number → new ≡ old
+  pub scratch_kept : (number : ℕ) → decision ≡ refuses number → KeepsScratch number → scratch' ≡ scratch
 
 -- what is written beside out-parameters, which then hold `value` of what was found
-abbrev pub withOuts : {R D O : Type 0} → (R → D → D → Type 0) → (R → O) → R → D × O → D × O → Type 0
-withOuts writes value found old new = writes found old.0 new.0 × (new.1 ≡ value found)
+abbrev pub WithOuts : {R D O : Type 0} → (R → D → D → Type 0) → (R → O) → R → D × O → D × O → Type 0
+WithOuts writes value found old new = writes found old.0 new.0 × (new.1 ≡ value found)
 
 -- out-parameters alone
-abbrev pub outsOnly : {R O : Type 0} → (R → O) → R → O → O → Type 0
-outsOnly value found old new = new ≡ value found
+abbrev pub OutsOnly : {R O : Type 0} → (R → O) → R → O → O → Type 0
+OutsOnly value found old new = new ≡ value found
 
 -- a call that writes out-parameters alone and is lent nothing: its decision, as C has it
 abbrev pub Returns : {R O : Type 0} → Decision R → (R → O) → O → O → ℕ → Type 0
-Returns decision value before after r = Outcome decision number_of (outsOnly value) before after (tt {0}) (tt {0}) r
+Returns decision value before after r = Outcome decision number_of (OutsOnly value) before after (tt {0}) (tt {0}) r
 
 -- ---- bytes at the front of a slice
 
@@ -69,8 +69,8 @@ abbrev pub room_for : ℕ → ℕ → List ℕ → Decision (List ℕ)
 room_for number room xs = cond (ltb room (length xs)) (refuses number) (accepts xs)
 
 -- in the front of the slice, the rest as before
-abbrev pub frontWrites : List ℕ → List ℕ → List ℕ → Type 0
-frontWrites xs old new = new ≡ xs ++ drop (length xs) old
+abbrev pub FrontWrites : List ℕ → List ℕ → List ℕ → Type 0
+FrontWrites xs old new = new ≡ xs ++ drop (length xs) old
 
 -- bytes from `at` on, and the place behind them; the rest as before
 pub record Appended (xs : List ℕ) (at : ℕ) (old new : List ℕ) (end : ℕ) : Type 0 where

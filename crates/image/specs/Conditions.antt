@@ -1,7 +1,7 @@
 -- Document 01, "Refusals, first match wins": "Each is given in its condition and otherwise never." The numbers with
 -- their conditions, in the document's order, as a list for each call; proofs/Conditions has what is proved of them.
 use Rattle.std.specs.Prelude.{ℕ, ◌+◌, ◌*◌, ◌-◌, ◌<◌, List, [], ◌∷◌, ◌++◌, ◌⊎◌, ◌↔◌, ◌≡◌}
-use Rattle.image.specs.Refusal.{maxSide, Laid}
+use Rattle.image.specs.Refusal.{max_side, Laid}
 
 pub record Refusal : Type 1 where
   pub number : ℕ
@@ -24,22 +24,22 @@ Exactly rs refusal = (n : ℕ) → (refusal ≡ n) ↔ FirstMatch rs n
 
 -- ---- numbers 1 to 6
 
-abbrev pub layoutConditions : ℕ → ℕ → ℕ → ℕ → List Refusal
-layoutConditions len width height stride =
+abbrev pub layout_conditions : ℕ → ℕ → ℕ → ℕ → List Refusal
+layout_conditions len width height stride =
     given 1 ((width ≡ 0) ⊎ (height ≡ 0))
-    ∷ given 2 ((maxSide < width) ⊎ (maxSide < height))
+    ∷ given 2 ((max_side < width) ⊎ (max_side < height))
     ∷ given 3 (stride < width)
     ∷ given 4 (len < stride * (height - 1) + width)
     ∷ []
 
 -- "5. The destination's own layout meets one of 1 to 4." `Laid` is a layout that meets none. 6 where it has not the
 -- sides w and h.
-abbrev pub sizedConditions : ℕ → ℕ → ℕ → ℕ → ℕ → ℕ → List Refusal
-sizedConditions dstLen dstWidth dstHeight dstStride w h =
-    given 5 (Laid dstLen dstWidth dstHeight dstStride → ⊥)
-    ∷ given 6 ((dstWidth ≡ w → ⊥) ⊎ (dstHeight ≡ h → ⊥))
+abbrev pub sized_conditions : ℕ → ℕ → ℕ → ℕ → ℕ → ℕ → List Refusal
+sized_conditions dst_len dst_width dst_height dst_stride w h =
+    given 5 (Laid dst_len dst_width dst_height dst_stride → ⊥)
+    ∷ given 6 ((dst_width ≡ w → ⊥) ⊎ (dst_height ≡ h → ⊥))
     ∷ []
 
-abbrev pub pairConditions : ℕ → ℕ → ℕ → ℕ → ℕ → ℕ → ℕ → ℕ → List Refusal
-pairConditions len width height stride dstLen dstWidth dstHeight dstStride =
-    layoutConditions len width height stride ++ sizedConditions dstLen dstWidth dstHeight dstStride width height
+abbrev pub pair_conditions : ℕ → ℕ → ℕ → ℕ → ℕ → ℕ → ℕ → ℕ → List Refusal
+pair_conditions len width height stride dst_len dst_width dst_height dst_stride =
+    layout_conditions len width height stride ++ sized_conditions dst_len dst_width dst_height dst_stride width height

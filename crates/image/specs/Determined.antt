@@ -4,8 +4,8 @@
 use Rattle.std.specs.Prelude.{◌≡◌}
 
 -- what an accepted call writes is determined: one old destination, one new one
-abbrev pub Writes-one : {R D : Type 0} → (R → D → D → Type 0) → Type 0
-Writes-one {R} {D} writes = (found : R) (old new new' : D) → writes found old new → writes found old new' → new ≡ new'
+abbrev pub WritesOne : {R D : Type 0} → (R → D → D → Type 0) → Type 0
+WritesOne {R} {D} writes = (found : R) (old new new' : D) → writes found old new → writes found old new' → new ≡ new'
 
 -- a contract over the scratch before and after, the new destination and the answer: two calls whose scratch is of one
 -- size, whatever it holds, have the same answer and the same destination

@@ -1,6 +1,6 @@
 -- Document 01, "Views and lines": pixels and rows of a picture that lies in a list of bytes.
 use Rattle.std.specs.Prelude.{ℕ, zero, suc, ◌+◌, ◌*◌, ◌/◌, ◌%◌, cond, ◌&&◌, List, [], ◌∷◌, eqb, ltb, length, get_or, take, drop}
-use Rattle.image.specs.Refusal.{layoutRefusal}
+use Rattle.image.specs.Refusal.{layout_refusal}
 use Rattle.image.specs.declared.Pixel.{Pixel}
 use Rattle.image.specs.declared.Pixel.TheVariants.{Value, Outside}
 
@@ -9,16 +9,16 @@ abbrev pub pixel : List ℕ → ℕ → ℕ → ℕ → ℕ
 pixel xs stride c r = get_or xs (r * stride + c) 0
 
 -- Pixel (c, r) of an accepted picture; Outside where the layout is refused, and at a place outside the picture.
-unfoldable pub pixelOf : List ℕ → ℕ → ℕ → ℕ → ℕ → ℕ → Pixel
-pixelOf xs width height stride c r =
-    cond (eqb (layoutRefusal (length xs) width height stride) 0 && ltb c width && ltb r height)
+unfoldable pub pixel_of : List ℕ → ℕ → ℕ → ℕ → ℕ → ℕ → Pixel
+pixel_of xs width height stride c r =
+    cond (eqb (layout_refusal (length xs) width height stride) 0 && ltb c width && ltb r height)
     (Value (pixel xs stride c r))
     Outside
 
 -- The pixels of a row; none where the layout is refused or there is no such row.
 unfoldable pub row_of : List ℕ → ℕ → ℕ → ℕ → ℕ → List ℕ
 row_of xs width height stride row =
-    cond (eqb (layoutRefusal (length xs) width height stride) 0 && ltb row height)
+    cond (eqb (layout_refusal (length xs) width height stride) 0 && ltb row height)
     (take width (drop (row * stride) xs))
     []
 
@@ -28,5 +28,5 @@ tabulate f zero = []
 tabulate f (suc n) = f 0 ∷ tabulate (λ i. f (suc i)) n
 
 -- A tight picture's bytes: pixel (c, r) is byte r × width + c.
-abbrev pub pixelsOf : ℕ → ℕ → (ℕ → ℕ → ℕ) → List ℕ
-pixelsOf width height px = tabulate (λ i. px (i % width) (i / width)) (width * height)
+abbrev pub pixels_of : ℕ → ℕ → (ℕ → ℕ → ℕ) → List ℕ
+pixels_of width height px = tabulate (λ i. px (i % width) (i / width)) (width * height)

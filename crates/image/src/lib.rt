@@ -1,7 +1,7 @@
 // Pictures in the caller's bytes: the layout's refusals, pixels and rows.
 ghost use Rattle.std.specs.Prelude.{◌≡◌};
-ghost use Rattle.image.specs.Refusal.{sidesRefusal, layoutRefusal, sizedRefusal, pairRefusal};
-ghost use Rattle.image.specs.Picture.{pixelOf, row_of};
+ghost use Rattle.image.specs.Refusal.{sides_refusal, layout_refusal, sized_refusal, pair_refusal};
+ghost use Rattle.image.specs.Picture.{pixel_of, row_of};
 ghost use Rattle.image.specs.View.{OnlyReads};
 
 pub mod kernel;
@@ -11,7 +11,7 @@ pub use view::{Gray8View, Gray8ViewMut};
 
 // Refusals 1 and 2 of a picture's sides; 0 where they are accepted.
 pub fn sides_refusal(width: usize, height: usize) -> u8
-    ensures { result ≡ sidesRefusal width height }
+    ensures { result ≡ sides_refusal width height }
 {
     if width == 0 || height == 0 {
         return 1;
@@ -24,7 +24,7 @@ pub fn sides_refusal(width: usize, height: usize) -> u8
 
 // Refusals 1 to 4 of a picture in len bytes; 0 where it is accepted.
 pub fn layout_refusal(len: usize, width: usize, height: usize, stride: usize) -> u8
-    ensures { result ≡ layoutRefusal len width height stride }
+    ensures { result ≡ layout_refusal len width height stride }
 {
     let sides = sides_refusal(width, height);
     if sides != 0 {
@@ -49,7 +49,7 @@ pub fn sized_refusal(
     asked_width: usize,
     asked_height: usize,
 ) -> u8
-    ensures { result ≡ sizedRefusal len width height stride asked_width asked_height }
+    ensures { result ≡ sized_refusal len width height stride asked_width asked_height }
 {
     if layout_refusal(len, width, height, stride) != 0 {
         return 5;
@@ -71,7 +71,7 @@ pub fn pair_refusal(
     dst_height: usize,
     dst_stride: usize,
 ) -> u8
-    ensures { result ≡ pairRefusal src_len width height stride dst_len dst_width dst_height dst_stride }
+    ensures { result ≡ pair_refusal src_len width height stride dst_len dst_width dst_height dst_stride }
 {
     let own = layout_refusal(src_len, width, height, stride);
     if own != 0 {
@@ -96,7 +96,7 @@ pub fn pixel_of(
     c: usize,
     r: usize,
 ) -> Pixel
-    ensures { result ≡ pixelOf «data».now width height stride c r }
+    ensures { result ≡ pixel_of «data».now width height stride c r }
 {
     if layout_refusal(data.len(), width, height, stride) != 0 {
         return Pixel::Outside;
@@ -129,7 +129,7 @@ pub fn pixel_in(
     r: usize,
 ) -> Pixel
     ensures { OnlyReads «data».old «data».new result
-        (pixelOf «data».old width height stride c r) }
+        (pixel_of «data».old width height stride c r) }
 {
     pixel_of(data, width, height, stride, c, r)
 }

@@ -1,9 +1,9 @@
 // Views: a picture in the caller's bytes, which a view borrows. Making one refuses nothing; each call over it refuses
 // by its own rules.
 ghost use Rattle.std.specs.Prelude.{◌≡◌, length};
-ghost use Rattle.image.specs.Refusal.{layoutRefusal};
-ghost use Rattle.image.specs.Picture.{pixelOf, row_of};
-ghost use Rattle.image.specs.View.{view_of, viewMutOf, pixelOfView, pixelOfViewMut, OnlyReads};
+ghost use Rattle.image.specs.Refusal.{layout_refusal};
+ghost use Rattle.image.specs.Picture.{pixel_of, row_of};
+ghost use Rattle.image.specs.View.{view_of, view_mut_of, pixel_of_view, pixel_of_view_mut, OnlyReads};
 
 use crate::Pixel;
 
@@ -42,7 +42,7 @@ impl<'a> Gray8View<'a> {
 
     // Refusals 1 to 4 of the layout; 0 where it is accepted.
     pub fn refusal(self) -> u8
-        ensures { result ≡ layoutRefusal (length self.entry.«data».now) self.entry.width
+        ensures { result ≡ layout_refusal (length self.entry.«data».now) self.entry.width
             self.entry.height self.entry.stride }
     {
         crate::layout_refusal(self.data.len(), self.width, self.height, self.stride)
@@ -56,7 +56,7 @@ impl<'a> Gray8View<'a> {
     }
 
     pub fn get(self, x: usize, y: usize) -> Pixel
-        ensures { result ≡ pixelOf self.entry.«data».now self.entry.width self.entry.height
+        ensures { result ≡ pixel_of self.entry.«data».now self.entry.width self.entry.height
             self.entry.stride x y }
     {
         crate::pixel_of(self.data, self.width, self.height, self.stride, x, y)
@@ -64,7 +64,7 @@ impl<'a> Gray8View<'a> {
 
     // The same as `get`, which has no byte to answer outside: the Rust has both names.
     pub fn try_get(self, x: usize, y: usize) -> Pixel
-        ensures { result ≡ pixelOfView self.entry x y }
+        ensures { result ≡ pixel_of_view self.entry x y }
     {
         crate::pixel_of(self.data, self.width, self.height, self.stride, x, y)
     }
@@ -90,7 +90,7 @@ impl<'a> Gray8View<'a> {
 
 impl<'a> Gray8ViewMut<'a> {
     pub fn new(data: &'a mut [u8], width: usize, height: usize, stride: usize) -> Gray8ViewMut<'a>
-        ensures { result ≡ viewMutOf «data».entry width height stride }
+        ensures { result ≡ view_mut_of «data».entry width height stride }
     {
         Gray8ViewMut {
             data,
@@ -103,7 +103,7 @@ impl<'a> Gray8ViewMut<'a> {
     // Refusals 1 to 4 of the layout; 0 where it is accepted.
     pub fn refusal(self) -> u8
         ensures { OnlyReads self.entry.«data».now self.exit.0.now result
-            (layoutRefusal (length self.entry.«data».now) self.entry.width self.entry.height
+            (layout_refusal (length self.entry.«data».now) self.entry.width self.entry.height
             self.entry.stride) }
     {
         crate::layout_refusal(self.data.len(), self.width, self.height, self.stride)
@@ -111,7 +111,7 @@ impl<'a> Gray8ViewMut<'a> {
 
     pub fn get(self, x: usize, y: usize) -> Pixel
         ensures { OnlyReads self.entry.«data».now self.exit.0.now result
-            (pixelOfViewMut self.entry x y) }
+            (pixel_of_view_mut self.entry x y) }
     {
         crate::pixel_in(self.data, self.width, self.height, self.stride, x, y)
     }

@@ -1,35 +1,35 @@
--- Document 02, K5: a whole job that did not answer 10 comes to what it did (`plan-as-before`), for the exact run too,
--- which goes by the same plan, and ends as it did (`restored-as-before`).
+-- Document 02, K5: a whole job that did not answer 10 comes to what it did (`plan_as_before`), for the exact run too,
+-- which goes by the same plan, and ends as it did (`restored_as_before`).
 use Prim.Native.Nat.{ℕ, ◌*◌}
 use mathlib.Core.Bool.{Bool, ◌||◌}
 use mathlib.Core.Path.{◌≡◌, ap}
 use lib.Dec.{ltb}
 use lib.ListN.{length}
-use Rattle.numbers.proofs.Test.{or-false-intro, or-false-left, or-false-right}
+use Rattle.numbers.proofs.Test.{or_false_intro, or_false_left, or_false_right}
 use Rattle.image.specs.Call.{Gray8, Decision, unless}
-use Rattle.image.specs.Refusal.{firstRefusal, Laid}
-use Rattle.image.proofs.Pair.{laid-pair}
-use Rattle.deblur.specs.Before.{scratchBefore, AsBefore}
-use Rattle.deblur.specs.Refusal.{scratchNeeded, iteratedRefusal}
-use Rattle.deblur.proofs.Before.{long-enough, order-as-before, outcome-as-before}
+use Rattle.image.specs.Refusal.{first_refusal, Laid}
+use Rattle.image.proofs.Pair.{laid_pair}
+use Rattle.deblur.specs.Before.{scratch_before, AsBefore}
+use Rattle.deblur.specs.Refusal.{scratch_needed, iterated_refusal}
+use Rattle.deblur.proofs.Before.{long_enough, order_as_before, outcome_as_before}
 use Rattle.job.specs.declared.JobAnswer.TheVariants.{Refused}
 use Rattle.job.specs.declared.JobConfig.{JobConfig}
 use Rattle.job.specs.declared.JobResult.{JobResult}
-use Rattle.job.specs.Before.{planBefore, RestoredBefore}
+use Rattle.job.specs.Before.{plan_before, RestoredBefore}
 use Rattle.job.specs.Job.{
   layout_of,
   Job,
   job_of,
-  picturesRefusal,
-  jobRefusal,
-  floorRefusal,
-  startRefusal,
-  planLength,
-  jobDirection,
-  jobLength,
+  pictures_refusal,
+  job_refusal,
+  floor_refusal,
+  start_refusal,
+  plan_length,
+  job_direction,
+  job_length,
   plan,
-  jobAnswer,
-  jobWrites,
+  job_answer,
+  JobWrites,
   Restored,
 }
 use Rattle.job.proofs.Determined.{job_one, lengths}
@@ -42,37 +42,37 @@ module _ (j : Job) where
   h = j.source.height
 
   abbrev measured : Decision JobResult
-  measured = planLength w h (jobDirection j) (jobLength j)
+  measured = plan_length w h (job_direction j) (job_length j)
 
   abbrev floor : ℕ
-  floor = floorRefusal j.source j.config
+  floor = floor_refusal j.source j.config
 
   abbrev was : Bool
-  was = ltb j.scratch-len (scratchBefore w h)
+  was = ltb j.scratch_len (scratch_before w h)
 
   abbrev is : Bool
-  is = ltb j.scratch-len (scratchNeeded w h)
+  is = ltb j.scratch_len (scratch_needed w h)
 
   abbrev few : Bool
-  few = ltb j.swings-len (w * h)
+  few = ltb j.swings_len (w * h)
 
-  pub plan-as-before : (jobAnswer (planBefore j) ≡ Refused 10 → ⊥) → plan j ≡ planBefore j
-  unfolding plan startRefusal jobRefusal
-  plan-as-before not-ten =
-      ap (λ (k : ℕ). unless (firstRefusal k floor) measured)
-      (order-as-before (picturesRefusal j.source j.destination)
-      (iteratedRefusal j.config.relaxation j.config.iterations) (was || few) (is || few)
+  pub plan_as_before : (job_answer (plan_before j) ≡ Refused 10 → ⊥) → plan j ≡ plan_before j
+  unfolding plan start_refusal job_refusal
+  plan_as_before not-ten =
+      ap (λ (k : ℕ). unless (first_refusal k floor) measured)
+      (order_as_before (pictures_refusal j.source j.destination)
+      (iterated_refusal j.config.relaxation j.config.iterations) (was || few) (is || few)
       (λ e short.
-      let l : Laid (length j.source.bytes) w h j.source.stride = (laid-pair e).source in
-      or-false-intro (long-enough l j.scratch-len (or-false-left was few short)) (or-false-right was few short))
-      (λ e. not-ten (ap (λ (k : ℕ). jobAnswer (unless (firstRefusal k floor) measured)) e)))
+      let l : Laid (length j.source.bytes) w h j.source.stride = (laid_pair e).source in
+      or_false_intro (long_enough l j.scratch_len (or_false_left was few short)) (or_false_right was few short))
+      (λ e. not-ten (ap (λ (k : ℕ). job_answer (unless (first_refusal k floor) measured)) e)))
 
-pub restored-as-before : (src dst : Gray8) (config : JobConfig)
+pub restored_as_before : (src dst : Gray8) (config : JobConfig)
     → AsBefore lengths (Refused 10)
     (λ lent lent' new answer. RestoredBefore src dst new config lent.0 lent'.0 lent.1 lent'.1 answer)
     (λ lent lent' new answer. Restored src dst new config lent.0 lent'.0 lent.1 lent'.1 answer)
-restored-as-before src dst config =
-    outcome-as-before lengths (λ sizes. planBefore (job_of src (layout_of dst) config sizes.0 sizes.1))
-    (λ sizes. plan (job_of src (layout_of dst) config sizes.0 sizes.1)) jobAnswer
-    (jobWrites src dst.stride config) (job_one src dst.stride config) dst.bytes (Refused 10)
-    (λ sizes. plan-as-before (job_of src (layout_of dst) config sizes.0 sizes.1))
+restored_as_before src dst config =
+    outcome_as_before lengths (λ sizes. plan_before (job_of src (layout_of dst) config sizes.0 sizes.1))
+    (λ sizes. plan (job_of src (layout_of dst) config sizes.0 sizes.1)) job_answer
+    (JobWrites src dst.stride config) (job_one src dst.stride config) dst.bytes (Refused 10)
+    (λ sizes. plan_as_before (job_of src (layout_of dst) config sizes.0 sizes.1))

@@ -8,21 +8,21 @@ use lib.Ieee.{binary64, of_bits, of_int, add, sub, mul, div, le, lt, eq}
 use lib.ListN.{length}
 use Rattle.numbers.specs.Sum.{total}
 use Rattle.floats.specs.Factor.{within}
-use Rattle.deblur.specs.Refusal.{factorRefusal, iterationsRefusal}
-use Rattle.floats.specs.Odd.{oddOf, oddLength}
+use Rattle.deblur.specs.Refusal.{factor_refusal, iterations_refusal}
+use Rattle.floats.specs.Odd.{odd_of, odd_length}
 use Rattle.image.specs.Call.{gray8, accepts, refuses}
-use Rattle.image.specs.Refusal.{layoutRefusal, pairRefusal}
-use Rattle.raster.specs.Lines.{startCol, startRow}
+use Rattle.image.specs.Refusal.{layout_refusal, pair_refusal}
+use Rattle.raster.specs.Lines.{start_col, start_row}
 use Rattle.raster.specs.declared.border.LineBorderMode.TheVariants.{Replicate}
 use Rattle.raster.specs.declared.direction.RasterDirection4.TheVariants.{Vertical}
-use Rattle.swings.specs.Rise.{levelOf, crossedAt, placeAt, crossing_of, riseBetween, riseOf}
-use Rattle.swings.specs.Runs.{runsFrom, runsAfter}
-use Rattle.swings.specs.Swings.{swingsOf, lineSwings, swingsFrom}
+use Rattle.swings.specs.Rise.{level_of, crossed_at, place_at, crossing_of, rise_between, rise_of}
+use Rattle.swings.specs.Runs.{runs_from, runs_after}
+use Rattle.swings.specs.Swings.{swings_of, line_swings, swings_from}
 use Rattle.tensor.specs.Confidence.{passes}
-use Rattle.tensor.specs.Tensor.{gradientX, gradientY, rowSum, interiorSum, tensorSums, tensorDirection, estimateOf}
+use Rattle.tensor.specs.Tensor.{gradient_x, gradient_y, row_sum, interior_sum, tensor_sums, tensor_direction, estimate_of}
 use Rattle.job.specs.declared.JobResult.{JobResult}
-use Rattle.job.specs.Floor.{withFloor}
-use Rattle.job.specs.Job.{layout, Job, jobRefusal, startRefusal, pictureDirection, jobDirection, plan}
+use Rattle.job.specs.Floor.{with_floor}
+use Rattle.job.specs.Job.{layout, Job, job_refusal, start_refusal, picture_direction, job_direction, plan}
 
 -- a picture without padding into one like it, one iteration of relaxation 1, with thresholds 3 and 24 and the scratch
 -- that is asked
@@ -40,8 +40,8 @@ tight source width height =
             relaxation = of_bits binary64 0x3ff0_0000_0000_0000;
             border = Replicate;
           };
-      scratch-len = 30;
-      swings-len = 30;
+      scratch_len = 30;
+      swings_len = 30;
     }
 
 unfoldable pub row : List ℕ
@@ -51,27 +51,27 @@ unfoldable pub ramp : Job
 unfolding row
 ramp = tight (row ++ (row ++ row)) 10 3
 
-ramp-vertical : jobDirection ramp ≡ Vertical
-unfolding ramp row pictureDirection estimateOf tensorSums tensorDirection interiorSum rowSum gradientX gradientY total
-ramp-vertical = refl
+ramp_vertical : job_direction ramp ≡ Vertical
+unfolding ramp row picture_direction estimate_of tensor_sums tensor_direction interior_sum row_sum gradient_x gradient_y total
+ramp_vertical = refl
 
-ramp-refused : plan ramp ≡ refuses 11
-unfolding ramp row plan startRefusal passes jobRefusal pairRefusal layoutRefusal factorRefusal iterationsRefusal within
-    pictureDirection estimateOf tensorSums tensorDirection interiorSum rowSum gradientX gradientY total startCol
-    startRow swingsFrom lineSwings swingsOf runsAfter runsFrom riseOf of_bits
-ramp-refused = refl
+ramp_refused : plan ramp ≡ refuses 11
+unfolding ramp row plan start_refusal passes job_refusal pair_refusal layout_refusal factor_refusal iterations_refusal within
+    picture_direction estimate_of tensor_sums tensor_direction interior_sum row_sum gradient_x gradient_y total start_col
+    start_row swings_from line_swings swings_of runs_after runs_from rise_of of_bits
+ramp_refused = refl
 
 -- document 02, K6: it has one direction alone, so that the highest floor goes on to 11; no floor is above that
-ramp-256 : plan (withFloor 256 ramp) ≡ refuses 11
-unfolding ramp row plan startRefusal passes jobRefusal pairRefusal layoutRefusal factorRefusal iterationsRefusal within
-    pictureDirection estimateOf tensorSums tensorDirection interiorSum rowSum gradientX gradientY total startCol
-    startRow swingsFrom lineSwings swingsOf runsAfter runsFrom riseOf of_bits
-ramp-256 = refl
+ramp_256 : plan (with_floor 256 ramp) ≡ refuses 11
+unfolding ramp row plan start_refusal passes job_refusal pair_refusal layout_refusal factor_refusal iterations_refusal within
+    picture_direction estimate_of tensor_sums tensor_direction interior_sum row_sum gradient_x gradient_y total start_col
+    start_row swings_from line_swings swings_of runs_after runs_from rise_of of_bits
+ramp_256 = refl
 
-ramp-257 : plan (withFloor 257 ramp) ≡ refuses 17
-unfolding ramp row plan startRefusal passes jobRefusal pairRefusal layoutRefusal factorRefusal iterationsRefusal within
-    estimateOf tensorSums tensorDirection interiorSum rowSum gradientX gradientY total of_bits
-ramp-257 = refl
+ramp_257 : plan (with_floor 257 ramp) ≡ refuses 17
+unfolding ramp row plan start_refusal passes job_refusal pair_refusal layout_refusal factor_refusal iterations_refusal within
+    estimate_of tensor_sums tensor_direction interior_sum row_sum gradient_x gradient_y total of_bits
+ramp_257 = refl
 
 -- 3 by 10: from row to row as the ramp by 10, from column to column by 100
 unfoldable pub columns : Job
@@ -92,20 +92,20 @@ inverted =
     10
 
 -- the estimate is 5.0
-unfoldable pub vertical-5 : JobResult
-vertical-5 = record { direction = Vertical; blur_length = 5; estimate = of_bits binary64 0x4014_0000_0000_0000 }
+unfoldable pub vertical_5 : JobResult
+vertical_5 = record { direction = Vertical; blur_length = 5; estimate = of_bits binary64 0x4014_0000_0000_0000 }
 
-pub runs : (plan columns ≡ accepts vertical-5) × (plan inverted ≡ accepts vertical-5)
-unfolding columns inverted vertical-5 plan startRefusal passes jobRefusal pairRefusal layoutRefusal factorRefusal
-    iterationsRefusal within pictureDirection estimateOf tensorSums tensorDirection interiorSum rowSum gradientX
-    gradientY total startCol startRow swingsFrom lineSwings swingsOf runsAfter runsFrom riseOf levelOf crossedAt placeAt
-    crossing_of riseBetween oddOf oddLength of_bits of_int add sub mul div le lt eq
+pub runs : (plan columns ≡ accepts vertical_5) × (plan inverted ≡ accepts vertical_5)
+unfolding columns inverted vertical_5 plan start_refusal passes job_refusal pair_refusal layout_refusal factor_refusal
+    iterations_refusal within picture_direction estimate_of tensor_sums tensor_direction interior_sum row_sum gradient_x
+    gradient_y total start_col start_row swings_from line_swings swings_of runs_after runs_from rise_of level_of crossed_at place_at
+    crossing_of rise_between odd_of odd_length of_bits of_int add sub mul div le lt eq
 runs = (refl, refl)
 
 -- A, C, E = 5120000, 320000, 28800: (512 − 255)² × (D² + 4C²) ≥ 255² × (A + E)², and not for 256
-floors : (plan (withFloor 255 columns) ≡ accepts vertical-5) × (plan (withFloor 256 columns) ≡ refuses 17)
-unfolding columns vertical-5 plan startRefusal passes jobRefusal pairRefusal layoutRefusal factorRefusal
-    iterationsRefusal within pictureDirection estimateOf tensorSums tensorDirection interiorSum rowSum gradientX
-    gradientY total startCol startRow swingsFrom lineSwings swingsOf runsAfter runsFrom riseOf levelOf crossedAt placeAt
-    crossing_of riseBetween oddOf oddLength of_bits of_int add sub mul div le lt eq
+floors : (plan (with_floor 255 columns) ≡ accepts vertical_5) × (plan (with_floor 256 columns) ≡ refuses 17)
+unfolding columns vertical_5 plan start_refusal passes job_refusal pair_refusal layout_refusal factor_refusal
+    iterations_refusal within picture_direction estimate_of tensor_sums tensor_direction interior_sum row_sum gradient_x
+    gradient_y total start_col start_row swings_from line_swings swings_of runs_after runs_from rise_of level_of crossed_at place_at
+    crossing_of rise_between odd_of odd_length of_bits of_int add sub mul div le lt eq
 floors = (refl, refl)

@@ -1,22 +1,22 @@
--- The estimate call of a job's plan: its settings are taken (`estimate-taken`).
+-- The estimate call of a job's plan: its settings are taken (`estimate_taken`).
 use mathlib.Core.Path.{◌≡◌, ap}
 use Prim.Native.Nat.{ℕ, ◌≤◌}
 use native.Mathlib.Omega.{arith}
 use Rattle.image.specs.Call.{Gray8}
-use Rattle.raster.specs.Direction.{angleOf, snaps, isFound}
+use Rattle.raster.specs.Direction.{angle_of, snaps, is_found}
 use Rattle.deblur.specs.Refusal.{LengthTaken}
-use Rattle.deblur.proofs.Refusals.{first-0, line-0, iterated-0}
+use Rattle.deblur.proofs.Refusals.{first_0, line_0, iterated_0}
 use Rattle.job.specs.declared.JobConfig.{JobConfig}
 use Rattle.job.specs.declared.JobResult.{JobResult}
-use Rattle.job.specs.Demands.{estimateFilter}
+use Rattle.job.specs.Demands.{estimate_filter}
 use Rattle.job.specs.Job.{Layout, Runnable}
 
 module _ (config : JobConfig) (result : JobResult) (k : ℕ) where
-  pub estimate-taken : {src : Gray8} {dst : Layout} {scratchLen : ℕ} → Runnable src dst config scratchLen
+  pub estimate_taken : {src : Gray8} {dst : Layout} {scratch_len : ℕ} → Runnable src dst config scratch_len
       → LengthTaken src.width src.height result.blur_length → 1 ≤ k → k ≤ config.iterations
-      → (estimateFilter config result k).refusal src.width src.height ≡ 0
-  estimate-taken {src} a l least most =
-      let limit = a.iterations-taken.most in
+      → (estimate_filter config result k).refusal src.width src.height ≡ 0
+  estimate_taken {src} a l least most =
+      let limit = a.iterations_taken.most in
       let d = result.direction in
-      first-0 (line-0 src.width src.height (angleOf d) l (ap isFound (snaps d)))
-      (iterated-0 config.relaxation k a.relaxation-taken (record { least = least; most = omega arith }))
+      first_0 (line_0 src.width src.height (angle_of d) l (ap is_found (snaps d)))
+      (iterated_0 config.relaxation k a.relaxation_taken (record { least = least; most = omega arith }))

@@ -9,21 +9,21 @@ use Rattle.blur.specs.declared.length.LineLength.TheVariants.{Nothing}
 use Rattle.job.specs.declared.JobConfig.{JobConfig}
 use Rattle.job.specs.declared.JobAnswer.{JobAnswer}
 use Rattle.job.specs.declared.plan.JobStart.{JobStart}
-use Rattle.job.specs.Job.{Job, startRefusal, jobDirection, planLength, jobAnswer, jobWrites}
+use Rattle.job.specs.Job.{Job, start_refusal, job_direction, plan_length, job_answer, JobWrites}
 
 -- the refusal of a job, and the direction of one that is not refused
 pub record JobStarts (j : Job) (start : JobStart) : Type 0 where
-  pub refusal_is : start.refusal ≡ startRefusal j
-  pub direction-is : startRefusal j ≡ 0 → start.direction ≡ jobDirection j
+  pub refusal_is : start.refusal ≡ start_refusal j
+  pub direction_is : start_refusal j ≡ 0 → start.direction ≡ job_direction j
 
 -- the length of an answer; a refused one has none
-abbrev pub lengthIn : LengthAnswer → LineLength
-lengthIn (answer.Length l) = l
-lengthIn (answer.Refused number) = Nothing
+abbrev pub length_in : LengthAnswer → LineLength
+length_in (answer.Length l) = l
+length_in (answer.Refused number) = Nothing
 
 -- the end of a job that is not refused before it is measured: what direction and length come to, and what is written
 abbrev pub Finished : RasterDirection4 → LineLength → Gray8 → Gray8 → List ℕ → JobConfig → List ℤ → List ℤ → JobAnswer
     → Type 0
 Finished d l src dst new config scratch scratch' answer =
-    Outcome (planLength src.width src.height d l) jobAnswer (jobWrites src dst.stride config) dst.bytes new
+    Outcome (plan_length src.width src.height d l) job_answer (JobWrites src dst.stride config) dst.bytes new
     scratch scratch' answer

@@ -2,7 +2,7 @@
 ghost use Rattle.std.specs.Prelude.{length};
 ghost use Rattle.image.specs.Call.{gray8};
 ghost use Rattle.job.specs.Job.{layout, Runnable};
-ghost use Rattle.job.specs.Parts.{lengthIn, Finished};
+ghost use Rattle.job.specs.Parts.{length_in, Finished};
 
 use crate::plan::plan_job;
 use crate::{JobAnswer, JobConfig};
@@ -27,7 +27,7 @@ pub(crate) fn finish(
 ) -> JobAnswer
     requires { Runnable (gray8 «data».now width height stride)
         (layout (length dst.old) dst_width dst_height dst_stride) config (length scratch.old) }
-    ensures { Finished direction (lengthIn measured)
+    ensures { Finished direction (length_in measured)
         (gray8 «data».now width height stride)
         (gray8 dst.old dst_width dst_height dst_stride) dst.new config scratch.old
         scratch.new result }

@@ -1,7 +1,7 @@
 // The whole job: direction, length and restoration of one picture.
 ghost use Rattle.std.specs.Prelude.{◌≡◌};
 ghost use Rattle.image.specs.Call.{gray8};
-ghost use Rattle.job.specs.Job.{jobDefault, Restored};
+ghost use Rattle.job.specs.Job.{job_default, Restored};
 
 use crate::finish::finish;
 use crate::plan::{refused, start_job};
@@ -48,7 +48,7 @@ pub enum JobAnswer {
 
 impl JobConfig {
     pub fn default() -> Self
-        ensures { result ≡ jobDefault }
+        ensures { result ≡ job_default }
     {
         JobConfig {
             minimum_transitions: LineLengthConfig::MINIMUM_TRANSITIONS,

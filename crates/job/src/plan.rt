@@ -1,10 +1,10 @@
 // What a job comes to: its refusals, the direction of its picture, and the length that an estimate gives.
 ghost use Rattle.std.specs.Prelude.{◌≡◌};
-ghost use Rattle.floats.specs.Odd.{oddLength};
+ghost use Rattle.floats.specs.Odd.{odd_length};
 ghost use Rattle.image.specs.Call.{gray8};
 ghost use Rattle.raster.specs.Lines.{Sides};
-ghost use Rattle.job.specs.Job.{layout, job_of, jobRefusal, planOdd, planLength, jobAnswer};
-ghost use Rattle.job.specs.Parts.{lengthIn, JobStarts};
+ghost use Rattle.job.specs.Job.{layout, job_of, job_refusal, plan_odd, plan_length, job_answer};
+ghost use Rattle.job.specs.Parts.{length_in, JobStarts};
 
 use crate::{JobAnswer, JobConfig, JobResult};
 use blur::length::{LengthAnswer, LineLength};
@@ -36,7 +36,7 @@ fn job_refusal(
     scratch_len: usize,
     swings_len: usize,
 ) -> u8
-    ensures { result ≡ jobRefusal (job_of (gray8 «data».now width height stride)
+    ensures { result ≡ job_refusal (job_of (gray8 «data».now width height stride)
         (layout dst_len dst_width dst_height dst_stride)
         config scratch_len swings_len) }
 {
@@ -122,7 +122,7 @@ fn plan_estimate(
     estimate: f64,
 ) -> JobAnswer
     requires { Sides width height }
-    ensures { result ≡ jobAnswer (planOdd width height direction estimate (oddLength estimate)) }
+    ensures { result ≡ job_answer (plan_odd width height direction estimate (odd_length estimate)) }
 {
     match floats::odd_length(estimate) {
         OddLength::Length(length) => {
@@ -149,7 +149,7 @@ pub(crate) fn plan_job(
     measured: LengthAnswer,
 ) -> JobAnswer
     requires { Sides width height }
-    ensures { result ≡ jobAnswer (planLength width height direction (lengthIn measured)) }
+    ensures { result ≡ job_answer (plan_length width height direction (length_in measured)) }
 {
     match measured {
         LengthAnswer::Length(found) => match found {

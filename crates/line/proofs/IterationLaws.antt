@@ -1,7 +1,7 @@
 -- The laws of the iteration over any window. What its definitions say, one law for each, so that no other file unfolds
 -- them. Then: estimates depend on the samples of the picture alone where the window does (`after_same`), those of a
--- rearranged picture are its own, rearranged, where the window's are (`after-rearranged`), and, over a lawful window,
--- document 01's "|Yk| ≤ 255 × (2^(k+1) − 1)" (`after-within`), which fits an i32 (`after-fits`).
+-- rearranged picture are its own, rearranged, where the window's are (`after_rearranged`), and, over a lawful window,
+-- document 01's "|Yk| ≤ 255 × (2^(k+1) − 1)" (`after_within`), which fits an i32 (`after_fits`).
 use mathlib.Core.Path.{◌≡◌, refl, sym, ap, ap₂, ◌∙◌}
 use Prim.Native.Nat.{ℕ, zero, suc, ◌+◌, ◌-◌, ◌*◌, ◌^◌, ◌≤◌, ◌<◌}
 use native.Mathlib.Nat.{le_refl, mul_comm, mul-le-mul_left, mul-le-mul_right, div-le_of_le-mul}
@@ -10,32 +10,32 @@ use native.Mathlib.Numerals.{add-one}
 use native.Mathlib.Omega.{arith}
 use lib.IntN.{ℤ, pos, nat_abs, ◌-ℤ◌, ◌*ℤ◌}
 use lib.Signed.{shr_z, quot_z}
-use Rattle.numbers.proofs.Int.Size.{natAbs-add, natAbs-sub, nat_abs_mul, natAbs-quot, natAbs-shr}
-use Rattle.numbers.proofs.Nat.{two-pow-more}
-use Rattle.floats.specs.Factor.{scale, maxGain}
-use Rattle.line.specs.Iteration.{Window, mean, stepFrom, stepped, after}
-use Rattle.line.specs.Kernel.{maxIterations}
+use Rattle.numbers.proofs.Int.Size.{nat_abs_add, nat_abs_sub, nat_abs_mul, nat_abs_quot, nat_abs_shr}
+use Rattle.numbers.proofs.Nat.{two_pow_more}
+use Rattle.floats.specs.Factor.{scale, max_gain}
+use Rattle.line.specs.Iteration.{Window, mean, step_from, stepped, after}
+use Rattle.line.specs.Kernel.{max_iterations}
 
 module _ {P : Type 0} (W : Window P) (taps : ℕ) where
-  pub mean-is : (y : P → ℤ) (p : P) → mean W taps y p ≡ shr_z (W y p) taps
+  pub mean_is : (y : P → ℤ) (p : P) → mean W taps y p ≡ shr_z (W y p) taps
   unfolding mean
-  mean-is y p = refl
+  mean_is y p = refl
 
   module _ (b : P → ℤ) (q : ℕ) where
-    pub stepped-is : (y : P → ℤ) (p : P) → stepped W taps b q y p ≡ stepFrom q (b p) (mean W taps y p) (y p)
+    pub stepped_is : (y : P → ℤ) (p : P) → stepped W taps b q y p ≡ step_from q (b p) (mean W taps y p) (y p)
     unfolding stepped
-    stepped-is y p = refl
+    stepped_is y p = refl
 
-    pub after-zero : (p : P) → after W taps b q 0 p ≡ b p
+    pub after_zero : (p : P) → after W taps b q 0 p ≡ b p
     unfolding after
-    after-zero p = refl
+    after_zero p = refl
 
-    pub after-suc : (k : ℕ) (p : P) → after W taps b q (suc k) p ≡ stepped W taps b q (after W taps b q k) p
+    pub after_suc : (k : ℕ) (p : P) → after W taps b q (suc k) p ≡ stepped W taps b q (after W taps b q k) p
     unfolding after
-    after-suc k p = refl
+    after_suc k p = refl
 
     pub after_next : (k : ℕ) (p : P) → after W taps b q (k + 1) p ≡ stepped W taps b q (after W taps b q k) p
-    after_next k p = ap (λ (j : ℕ). after W taps b q j p) (add-one k) ∙ after-suc k p
+    after_next k p = ap (λ (j : ℕ). after W taps b q j p) (add-one k) ∙ after_suc k p
 
 -- ---- a lawful window
 
@@ -57,30 +57,30 @@ pub record LawfulWindow {P : Type 0} (On : P → Type 0) (W : Window P) (taps : 
   pub within : (y : P → ℤ) (B : ℕ) → Bounded On B y → 255 ≤ B → (p : P) → nat_abs (W y p) ≤ taps * B
 
 -- the step's quotient, for q ≤ g × 65,536
-residual-within : (x : ℤ) (q g : ℕ) → q ≤ g * scale → nat_abs (quot_z (x *ℤ pos q) (pos scale)) ≤ nat_abs x * g
-residual-within x q g h =
-    rw (natAbs-quot (x *ℤ pos q) (pos scale), nat_abs_mul x (pos q))
+residual_within : (x : ℤ) (q g : ℕ) → q ≤ g * scale → nat_abs (quot_z (x *ℤ pos q) (pos scale)) ≤ nat_abs x * g
+residual_within x q g h =
+    rw (nat_abs_quot (x *ℤ pos q) (pos scale), nat_abs_mul x (pos q))
     (div-le_of_le-mul scale (omega (arith, mul-le-mul_left (nat_abs x) h)))
 
 module _ {P : Type 0} {On : P → Type 0} {W : Window P} (taps : ℕ) (reads : Reads On W) where
-  pub mean-same : (y z : P → ℤ) → Same On y z → (p : P) → mean W taps y p ≡ mean W taps z p
-  mean-same y z d p =
-      mean-is W taps y p ∙ ap (λ (x : ℤ). shr_z x taps) (reads y z d p) ∙ sym (mean-is W taps z p)
+  pub mean_same : (y z : P → ℤ) → Same On y z → (p : P) → mean W taps y p ≡ mean W taps z p
+  mean_same y z d p =
+      mean_is W taps y p ∙ ap (λ (x : ℤ). shr_z x taps) (reads y z d p) ∙ sym (mean_is W taps z p)
 
   module _ (b c : P → ℤ) (e : Same On b c) (q : ℕ) where
     pub stepped_same : (y z : P → ℤ) → Same On y z → Same On (stepped W taps b q y) (stepped W taps c q z)
     stepped_same y z d p h =
-        stepped-is W taps b q y p
-        ∙ ap₂ (stepFrom q (b p)) (mean-same y z d p) (d p h)
-        ∙ ap (λ (x : ℤ). stepFrom q x (mean W taps z p) (z p)) (e p h)
-        ∙ sym (stepped-is W taps c q z p)
+        stepped_is W taps b q y p
+        ∙ ap₂ (step_from q (b p)) (mean_same y z d p) (d p h)
+        ∙ ap (λ (x : ℤ). step_from q x (mean W taps z p) (z p)) (e p h)
+        ∙ sym (stepped_is W taps c q z p)
 
     pub after_same : (k : ℕ) → Same On (after W taps b q k) (after W taps c q k)
-    after_same zero p h = after-zero W taps b q p ∙ e p h ∙ sym (after-zero W taps c q p)
+    after_same zero p h = after_zero W taps b q p ∙ e p h ∙ sym (after_zero W taps c q p)
     after_same (suc k) p h =
-        after-suc W taps b q k p
+        after_suc W taps b q k p
         ∙ stepped_same (after W taps b q k) (after W taps c q k) (after_same k) p h
-        ∙ sym (after-suc W taps c q k p)
+        ∙ sym (after_suc W taps c q k p)
 
 -- Where the window of a rearranged picture is the picture's own at the place that is taken, the estimates of the
 -- rearranged picture are the picture's own, rearranged.
@@ -88,29 +88,29 @@ module _ {P : Type 0} {On : P → Type 0} {W : Window P} (taps : ℕ) (reads : R
     (to : P → P) (moves : (y : P → ℤ) (p : P) → W (λ i. y (to i)) p ≡ W y (to p)) where
   mean-rearranged : (y : P → ℤ) (p : P) → mean W taps (λ i. y (to i)) p ≡ mean W taps y (to p)
   mean-rearranged y p =
-      mean-is W taps (λ i. y (to i)) p
+      mean_is W taps (λ i. y (to i)) p
       ∙ ap (λ (x : ℤ). shr_z x taps) (moves y p)
-      ∙ sym (mean-is W taps y (to p))
+      ∙ sym (mean_is W taps y (to p))
 
   module _ (b : P → ℤ) (q : ℕ) where
-    pub after-rearranged : (k : ℕ) (p : P) → after W taps (λ i. b (to i)) q k p ≡ after W taps b q k (to p)
-    after-rearranged zero p = after-zero W taps (λ i. b (to i)) q p ∙ sym (after-zero W taps b q (to p))
-    after-rearranged (suc k) p =
+    pub after_rearranged : (k : ℕ) (p : P) → after W taps (λ i. b (to i)) q k p ≡ after W taps b q k (to p)
+    after_rearranged zero p = after_zero W taps (λ i. b (to i)) q p ∙ sym (after_zero W taps b q (to p))
+    after_rearranged (suc k) p =
         let y = after W taps b q k in
         let z = after W taps (λ i. b (to i)) q k in
         let m : mean W taps z p ≡ mean W taps y (to p) =
-        mean-same taps reads z (λ i. y (to i)) (λ i _. after-rearranged k i) p ∙ mean-rearranged y p
+        mean_same taps reads z (λ i. y (to i)) (λ i _. after_rearranged k i) p ∙ mean-rearranged y p
         in
-        after-suc W taps (λ i. b (to i)) q k p
-        ∙ stepped-is W taps (λ i. b (to i)) q z p
-        ∙ ap₂ (stepFrom q (b (to p))) m (after-rearranged k p)
-        ∙ sym (stepped-is W taps b q y (to p))
-        ∙ sym (after-suc W taps b q k (to p))
+        after_suc W taps (λ i. b (to i)) q k p
+        ∙ stepped_is W taps (λ i. b (to i)) q z p
+        ∙ ap₂ (step_from q (b (to p))) m (after_rearranged k p)
+        ∙ sym (stepped_is W taps b q y (to p))
+        ∙ sym (after_suc W taps b q k (to p))
 
 module _ {P : Type 0} {On : P → Type 0} {W : Window P} {taps : ℕ} (l : LawfulWindow On W taps) (some : 0 < taps) where
-  pub mean-within : (y : P → ℤ) (B : ℕ) → Bounded On B y → 255 ≤ B → (p : P) → nat_abs (mean W taps y p) ≤ B
-  mean-within y B bound byte p =
-      rw (mean-is W taps y p) (natAbs-shr (W y p) taps B some (rw (mul_comm B taps) (l.within y B bound byte p)))
+  pub mean_within : (y : P → ℤ) (B : ℕ) → Bounded On B y → 255 ≤ B → (p : P) → nat_abs (mean W taps y p) ≤ B
+  mean_within y B bound byte p =
+      rw (mean_is W taps y p) (nat_abs_shr (W y p) taps B some (rw (mul_comm B taps) (l.within y B bound byte p)))
 
   module _ (b : P → ℤ) (bytes : Bounded On 255 b) where
     -- with a factor up to g
@@ -119,13 +119,13 @@ module _ {P : Type 0} {On : P → Type 0} {W : Window P} {taps : ℕ} (l : Lawfu
     stepped_by q g h y B bound byte p i =
         let m = mean W taps y p in
         let r = b p -ℤ m in
-        let small : nat_abs r ≤ 255 + B = omega (arith, natAbs-sub (b p) m, bytes p i, mean-within y B bound byte p) in
-        rw (stepped-is W taps b q y p)
+        let small : nat_abs r ≤ 255 + B = omega (arith, nat_abs_sub (b p) m, bytes p i, mean_within y B bound byte p) in
+        rw (stepped_is W taps b q y p)
         (omega (
           arith,
-          natAbs-add (y p) (quot_z (r *ℤ pos q) (pos scale)),
+          nat_abs_add (y p) (quot_z (r *ℤ pos q) (pos scale)),
           bound p i,
-          residual-within r q g h,
+          residual_within r q g h,
           mul-le-mul_right g small,
         ))
 
@@ -135,30 +135,30 @@ module _ {P : Type 0} {On : P → Type 0} {W : Window P} {taps : ℕ} (l : Lawfu
     stepped_within q h y B bound byte p i = omega (arith, stepped_by q 1 (omega arith) y B bound byte p i)
 
     -- gain, at most 8, in one step from bytes
-    pub unsharp-within : (q : ℕ) → q ≤ maxGain * scale → Bounded On 4335 (stepped W taps b q b)
-    unsharp-within q h p i = omega (arith, stepped_by q 8 (omega arith) b 255 bytes (le_refl 255) p i)
+    pub unsharp_within : (q : ℕ) → q ≤ max_gain * scale → Bounded On 4335 (stepped W taps b q b)
+    unsharp_within q h p i = omega (arith, stepped_by q 8 (omega arith) b 255 bytes (le_refl 255) p i)
 
     module _ (q : ℕ) (h : q ≤ scale) where
-      pub after-within : (k : ℕ) → Bounded On (255 * (2 ^ (k + 1) - 1)) (after W taps b q k)
-      after-within zero p i = rw (after-zero W taps b q p) (bytes p i)
-      after-within (suc k) p i =
+      pub after_within : (k : ℕ) → Bounded On (255 * (2 ^ (k + 1) - 1)) (after W taps b q k)
+      after_within zero p i = rw (after_zero W taps b q p) (bytes p i)
+      after_within (suc k) p i =
           let two : 1 ≤ 2 ^ k = one-le-pow k 2 (omega arith) in
-          let once = two-pow-more k in
-          let twice = two-pow-more (k + 1) in
+          let once = two_pow_more k in
+          let twice = two_pow_more (k + 1) in
           let next : suc k + 1 ≡ k + 1 + 1 = omega arith in
           let same : 2 ^ (suc k + 1) ≡ 2 ^ (k + 1 + 1) = ap (λ (j : ℕ). 2 ^ j) next in
-          rw (after-suc W taps b q k p)
+          rw (after_suc W taps b q k p)
           (omega (
             arith,
-            stepped_within q h (after W taps b q k) (255 * (2 ^ (k + 1) - 1)) (after-within k) (omega arith) p i,
+            stepped_within q h (after W taps b q k) (255 * (2 ^ (k + 1) - 1)) (after_within k) (omega arith) p i,
           ))
 
       -- up to K iterations
-      pub after-most : (K k : ℕ) → k ≤ K → Bounded On (255 * (2 ^ (K + 1) - 1)) (after W taps b q k)
-      after-most K k d p i =
+      pub after_most : (K k : ℕ) → k ≤ K → Bounded On (255 * (2 ^ (K + 1) - 1)) (after W taps b q k)
+      after_most K k d p i =
           let more = pow-le-pow_right {n = 2} (omega arith) {i = k + 1} {j = K + 1} (omega arith) in
-          omega (arith, after-within k p i, more)
+          omega (arith, after_within k p i, more)
 
       -- 22 iterations: 255 × (2^23 − 1), below 2^31
-      pub after-fits : (k : ℕ) → k ≤ maxIterations → Bounded On 2139094785 (after W taps b q k)
-      after-fits = after-most maxIterations
+      pub after_fits : (k : ℕ) → k ≤ max_iterations → Bounded On 2139094785 (after W taps b q k)
+      after_fits = after_most max_iterations

@@ -1,6 +1,6 @@
 -- The means of a line in the scratch: the estimate stays as it was (`-kept`), its windows are small enough to divide
--- (`window-size`), and the means are written place after place (`means-none`, `means-next`) or piece after piece
--- (`means-join`).
+-- (`window_size`), and the means are written place after place (`means_none`, `means_next`) or piece after piece
+-- (`means_join`).
 use mathlib.Core.Path.{◌≡◌, refl, sym, ap, ap₂, ◌∙◌}
 use mathlib.Core.List.{List}
 use Prim.Native.Nat.{ℕ, ◌+◌, ◌-◌, ◌*◌, ◌/◌, ◌^◌, ◌≤◌, ◌<◌}
@@ -11,73 +11,73 @@ use lib.ListN.{set}
 use lib.Signed.{shr_z}
 use mir.Syntax.{w64}
 use mir.Val.{SFits}
-use Rattle.numbers.proofs.Int.Size.{sfits-size}
-use Rattle.numbers.proofs.Places.{part_none, part-last, part_join, part-before}
-use Rattle.numbers.proofs.Sum.{total-within}
-use Rattle.numbers.proofs.Written.{written_none, written-set, written-join, written_same, written-kept}
+use Rattle.numbers.proofs.Int.Size.{sfits_size}
+use Rattle.numbers.proofs.Places.{part_none, part_last, part_join, part_before}
+use Rattle.numbers.proofs.Sum.{total_within}
+use Rattle.numbers.proofs.Written.{written_none, written_set, written_join, written_same, written_kept}
 use Rattle.raster.specs.Border.{Lawful}
-use Rattle.raster.proofs.BorderMap.{border-lawful}
+use Rattle.raster.proofs.BorderMap.{border_lawful}
 use Rattle.line.specs.declared.mean.MeanSettings.{MeanSettings}
 use Rattle.line.specs.Line.{sample, mean}
-use Rattle.line.specs.Kernel.{line_at, largest, MeanAsked, mapOf, windowAt, sampleAt, opening, MeansWritten}
-use Rattle.line.proofs.IterationLaws.{mean-is, mean-same}
-use Rattle.line.proofs.LineLaws.{sample-at, window-is, window-slide}
-use Rattle.line.proofs.LineWindow.{lawful-of-line, sample-same, sample-within, window-reads, line-window}
-use Rattle.line.proofs.KernelSum.{largest-byte, largest-most}
+use Rattle.line.specs.Kernel.{line_at, largest, MeanAsked, map_of, window_at, sample_at, opening, MeansWritten}
+use Rattle.line.proofs.IterationLaws.{mean_is, mean_same}
+use Rattle.line.proofs.LineLaws.{sample_at_lem, window_is, window_slide}
+use Rattle.line.proofs.LineWindow.{lawful_of_line, sample_same, sample_within, window_reads, line_window}
+use Rattle.line.proofs.KernelSum.{largest_byte, largest_most}
 
 -- the place p of the mean part
 place : (n p : ℕ) → n + n + p - (n + n) ≡ p
 place n p = add-sub_cancel_left (n + n) p
 
 module _ (s : MeanSettings) (xs : List ℤ) where
-  pub opening-whole : opening s xs s.blur_length ≡ windowAt s xs 0
-  opening-whole = sym (window-is (mapOf s) (line_at s.n xs) s.blur_length 0)
+  pub opening_whole : opening s xs s.blur_length ≡ window_at s xs 0
+  opening_whole = sym (window_is (map_of s) (line_at s.n xs) s.blur_length 0)
 
 module _ (s : MeanSettings) {old : List ℤ} (A : MeanAsked s old) where
-  pub lawful : Lawful s.n (mapOf s)
-  lawful = border-lawful s.border s.n A.some A.value
+  pub lawful : Lawful s.n (map_of s)
+  lawful = border_lawful s.border s.n A.some A.value
 
-  small-samples : (p : ℤ) → nat_abs (sample (mapOf s) (line_at s.n old) p) ≤ largest s.reciprocal
+  small-samples : (p : ℤ) → nat_abs (sample (map_of s) (line_at s.n old) p) ≤ largest s.reciprocal
   small-samples =
-      let r = s.reciprocal in sample-within lawful (line_at s.n old) (largest r) A.small (largest-byte r)
+      let r = s.reciprocal in sample_within lawful (line_at s.n old) (largest r) A.small (largest_byte r)
 
-  pub window-size : (p : ℕ) → nat_abs (windowAt s old p) ≤ s.blur_length * largest s.reciprocal
-  window-size =
+  pub window_size : (p : ℕ) → nat_abs (window_at s old p) ≤ s.blur_length * largest s.reciprocal
+  window_size =
       let r = s.reciprocal in
-      (line-window lawful s.blur_length).within (line_at s.n old) (largest r) A.small (largest-byte r)
+      (line_window lawful s.blur_length).within (line_at s.n old) (largest r) A.small (largest_byte r)
 
-  pub window-slides : (p : ℕ) → nat_abs (windowAt s old p) < 2 ^ 62
-  window-slides p = omega (arith, window-size p, mul-le-mul A.divides.bounded (largest-most s.reciprocal))
+  pub window_slides : (p : ℕ) → nat_abs (window_at s old p) < 2 ^ 62
+  window_slides p = omega (arith, window_size p, mul-le-mul A.divides.bounded (largest_most s.reciprocal))
 
-  pub window-fits : (p : ℕ) → SFits w64 (windowAt s old p)
-  window-fits p = sfits-size (omega (arith, window-slides p))
+  pub window_fits : (p : ℕ) → SFits w64 (window_at s old p)
+  window_fits p = sfits_size (omega (arith, window_slides p))
 
-  pub opening-size : (u : ℕ) → nat_abs (opening s old u) ≤ u * largest s.reciprocal
-  opening-size u =
-      total-within _ 0 u (largest s.reciprocal)
+  pub opening_size : (u : ℕ) → nat_abs (opening s old u) ≤ u * largest s.reciprocal
+  opening_size u =
+      total_within _ 0 u (largest s.reciprocal)
       (λ v _ _. small-samples (sub_ℕ v (s.blur_length / 2)))
 
   module _ {a e : ℕ} {new : List ℤ} (W : MeansWritten s a e old new) where
     pub line_kept : (i : ℕ) → i < s.n → line_at s.n new i ≡ line_at s.n old i
     line_kept i h =
-        written-kept W.written (s.n + i) (part-before (s.n + s.n + a) (e - a) (s.n + i) (omega arith))
+        written_kept W.written (s.n + i) (part_before (s.n + s.n + a) (e - a) (s.n + i) (omega arith))
 
-    pub sample-kept : (p : ℤ) → sample (mapOf s) (line_at s.n new) p ≡ sample (mapOf s) (line_at s.n old) p
-    sample-kept p = sample-same (lawful-of-line lawful) (line_at s.n new) (line_at s.n old) line_kept p
+    pub sample_kept : (p : ℤ) → sample (map_of s) (line_at s.n new) p ≡ sample (map_of s) (line_at s.n old) p
+    sample_kept p = sample_same (lawful_of_line lawful) (line_at s.n new) (line_at s.n old) line_kept p
 
     -- a place u − L/2 of the line
-    pub sample-on : (u : ℕ) → s.blur_length / 2 ≤ u → u < s.blur_length / 2 + s.n
-        → line_at s.n new (u - s.blur_length / 2) ≡ sampleAt s old u
-    sample-on u h k =
+    pub sample_on : (u : ℕ) → s.blur_length / 2 ≤ u → u < s.blur_length / 2 + s.n
+        → line_at s.n new (u - s.blur_length / 2) ≡ sample_at s old u
+    sample_on u h k =
         line_kept (u - s.blur_length / 2) (omega arith)
-        ∙ sym (sample-at lawful (line_at s.n old) u (s.blur_length / 2) h k)
+        ∙ sym (sample_at_lem lawful (line_at s.n old) u (s.blur_length / 2) h k)
 
-    pub window-kept : (p : ℕ) → windowAt s new p ≡ windowAt s old p
-    window-kept =
-        window-reads (lawful-of-line lawful) s.blur_length (line_at s.n new) (line_at s.n old) line_kept
+    pub window_kept : (p : ℕ) → window_at s new p ≡ window_at s old p
+    window_kept =
+        window_reads (lawful_of_line lawful) s.blur_length (line_at s.n new) (line_at s.n old) line_kept
 
-    pub asked-kept : MeanAsked s new
-    asked-kept =
+    pub asked_kept : MeanAsked s new
+    asked_kept =
         record {
           some = A.some;
           short = A.short;
@@ -88,38 +88,38 @@ module _ (s : MeanSettings) {old : List ℤ} (A : MeanAsked s old) where
         }
 
   -- the sum one place on, by the samples read while the means are written
-  pub window_on : (p : ℕ) {sum x y : ℤ} → sum ≡ windowAt s old p → x ≡ sampleAt s old (p + s.blur_length)
-      → y ≡ sampleAt s old p → sum +ℤ x -ℤ y ≡ windowAt s old (p + 1)
-  window_on p d e f = ap₂ ◌-ℤ◌ (ap₂ ◌+ℤ◌ d e) f ∙ sym (window-slide (mapOf s) (line_at s.n old) s.blur_length p)
+  pub window_on : (p : ℕ) {sum x y : ℤ} → sum ≡ window_at s old p → x ≡ sample_at s old (p + s.blur_length)
+      → y ≡ sample_at s old p → sum +ℤ x -ℤ y ≡ window_at s old (p + 1)
+  window_on p d e f = ap₂ ◌-ℤ◌ (ap₂ ◌+ℤ◌ d e) f ∙ sym (window_slide (map_of s) (line_at s.n old) s.blur_length p)
 
-  pub means-none : (a : ℕ) → MeansWritten s a a old old
-  means-none a = record { written = written_none λ j _. rw (sub_self a) (part_none (s.n + s.n + a) j) }
+  pub means_none : (a : ℕ) → MeansWritten s a a old old
+  means_none a = record { written = written_none λ j _. rw (sub_self a) (part_none (s.n + s.n + a) j) }
 
   -- the mean at place p, from the window's sum there
-  pub means-next : {a p : ℕ} {new : List ℤ} {sum : ℤ} (v : ℤ) → MeansWritten s a p old new → a ≤ p → p < s.n
-      → sum ≡ windowAt s old p → v ≡ shr_z sum s.blur_length
+  pub means_next : {a p : ℕ} {new : List ℤ} {sum : ℤ} (v : ℤ) → MeansWritten s a p old new → a ≤ p → p < s.n
+      → sum ≡ window_at s old p → v ≡ shr_z sum s.blur_length
       → MeansWritten s a (p + 1) old (set new (s.n + s.n + p) v)
-  means-next {a} {p} v W h k d e =
+  means_next {a} {p} v W h k d e =
       record {
         written =
-            written-set (s.n + s.n + p) v W.written
+            written_set (s.n + s.n + p) v W.written
             (rw W.written.same_length (omega (arith, A.room)))
             (e
             ∙ ap (λ (z : ℤ). shr_z z s.blur_length) d
-            ∙ sym (mean-is _ s.blur_length (line_at s.n old) p)
-            ∙ ap (mean (mapOf s) (line_at s.n old) s.blur_length) (sym (place s.n p)))
-            (part-last (s.n + s.n + a) (p - a) (s.n + s.n + p) (p + 1 - a) (omega arith) (omega arith));
+            ∙ sym (mean_is _ s.blur_length (line_at s.n old) p)
+            ∙ ap (mean (map_of s) (line_at s.n old) s.blur_length) (sym (place s.n p)))
+            (part_last (s.n + s.n + a) (p - a) (s.n + s.n + p) (p + 1 - a) (omega arith) (omega arith));
       }
 
-  pub means-join : {a b e : ℕ} {mid new : List ℤ} → MeansWritten s a b old mid → MeansWritten s b e mid new
+  pub means_join : {a b e : ℕ} {mid new : List ℤ} → MeansWritten s a b old mid → MeansWritten s b e mid new
       → a ≤ b → b ≤ e → MeansWritten s a e old new
-  means-join {a} {b} {e} {mid} F S h k =
+  means_join {a} {b} {e} {mid} F S h k =
       record {
         written =
-            written-join F.written
+            written_join F.written
             (written_same S.written (λ j _. refl)
             (λ j _ _.
-            let w = window-reads (lawful-of-line lawful) s.blur_length in
-            mean-same s.blur_length w (line_at s.n mid) (line_at s.n old) (line_kept F) (j - (s.n + s.n))))
+            let w = window_reads (lawful_of_line lawful) s.blur_length in
+            mean_same s.blur_length w (line_at s.n mid) (line_at s.n old) (line_kept F) (j - (s.n + s.n))))
             (part_join (s.n + s.n + a) (b - a) (s.n + s.n + b) (e - b) (e - a) (omega arith) (omega arith));
       }

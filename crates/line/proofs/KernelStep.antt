@@ -11,26 +11,26 @@ use lib.Signed.{quot_z}
 use mir.Syntax.{w32, w64}
 use mir.Val.{SFits, to_z, of_z}
 use mir.Facts.{to_z-of_z, to_z_pos}
-use Rattle.numbers.proofs.Int.Divide.{quot-exact}
-use Rattle.numbers.proofs.Int.Machine.{fits-as, held, sfits-sub, sfits-quot}
+use Rattle.numbers.proofs.Int.Divide.{quot_exact}
+use Rattle.numbers.proofs.Int.Machine.{fits_as, held, sfits_sub, sfits_quot}
 use Rattle.numbers.proofs.Int.Order.{pos-≤ℤ}
-use Rattle.numbers.proofs.Int.Size.{natAbs-sub, nat_abs_mul, sfits-size}
-use Rattle.numbers.proofs.Places.{part-before, part-after, part_none, part-next}
-use Rattle.numbers.proofs.Written.{written_none, written-set, written-kept}
+use Rattle.numbers.proofs.Int.Size.{nat_abs_sub, nat_abs_mul, sfits_size}
+use Rattle.numbers.proofs.Places.{part_before, part_after, part_none, part_next}
+use Rattle.numbers.proofs.Written.{written_none, written_set, written_kept}
 use Rattle.floats.specs.Factor.{scale}
-use Rattle.line.specs.Iteration.{stepFrom}
+use Rattle.line.specs.Iteration.{step_from}
 use Rattle.line.specs.Kernel.{line_at, SampleStepAsked, StepAsked, LineStepped}
 
 -- ---- relaxation 1, in 32 bits
 
-step-whole : (b m y : ℤ) → stepFrom scale b m y ≡ y +ℤ (b -ℤ m)
-step-whole b m y =
+step_whole : (b m y : ℤ) → step_from scale b m y ≡ y +ℤ (b -ℤ m)
+step_whole b m y =
     ap (λ (z : ℤ). y +ℤ quot_z z (pos scale)) (*ℤ_comm (b -ℤ m) (pos scale))
-    ∙ ap (y +ℤ◌) (quot-exact (zero-lt-suc 65535) (b -ℤ m))
+    ∙ ap (y +ℤ◌) (quot_exact (zero-lt-suc 65535) (b -ℤ m))
 
 -- the sum as it stands in the machine
-abbrev wholeIn : ℤ → ℤ → ℤ → ℤ
-wholeIn b m y = to_z w32 (of_z w32 y) +ℤ to_z w32 (of_z w32 (to_z w32 (of_z w32 b) -ℤ to_z w32 (of_z w32 m)))
+abbrev whole_in : ℤ → ℤ → ℤ → ℤ
+whole_in b m y = to_z w32 (of_z w32 y) +ℤ to_z w32 (of_z w32 (to_z w32 (of_z w32 b) -ℤ to_z w32 (of_z w32 m)))
 
 module _ {y b m : ℤ} {q : ℕ} (fy : SFits w32 y) (fb : SFits w32 b) (fm : SFits w32 m) (S : SampleStepAsked y b m q)
     (one : q ≡ scale) where
@@ -38,101 +38,101 @@ module _ {y b m : ℤ} {q : ℕ} (fy : SFits w32 y) (fb : SFits w32 b) (fm : SFi
   whole-residual = ap₂ ◌-ℤ◌ (to_z-of_z fb) (to_z-of_z fm)
 
   whole-size : SFits w32 (b -ℤ m)
-  whole-size = sfits-sub b m (omega (arith, S.byte, S.small))
+  whole-size = sfits_sub b m (omega (arith, S.byte, S.small))
 
-  pub whole-subs : SFits w32 (to_z w32 (of_z w32 b) -ℤ to_z w32 (of_z w32 m))
-  whole-subs = fits-as whole-residual whole-size
+  pub whole_subs : SFits w32 (to_z w32 (of_z w32 b) -ℤ to_z w32 (of_z w32 m))
+  whole_subs = fits_as whole-residual whole-size
 
-  whole_sum : wholeIn b m y ≡ stepFrom q b m y
+  whole_sum : whole_in b m y ≡ step_from q b m y
   whole_sum =
       ap₂ ◌+ℤ◌ (to_z-of_z fy) (held whole-residual whole-size)
-      ∙ sym (step-whole b m y)
-      ∙ ap (λ (k : ℕ). stepFrom k b m y) (sym one)
+      ∙ sym (step_whole b m y)
+      ∙ ap (λ (k : ℕ). step_from k b m y) (sym one)
 
-  pub whole-adds : SFits w32 (wholeIn b m y)
-  whole-adds = fits-as whole_sum (sfits-size S.fits)
+  pub whole_adds : SFits w32 (whole_in b m y)
+  whole_adds = fits_as whole_sum (sfits_size S.fits)
 
-  pub whole_is : to_z w32 (of_z w32 (wholeIn b m y)) ≡ stepFrom q b m y
-  whole_is = held whole_sum (sfits-size S.fits)
+  pub whole_is : to_z w32 (of_z w32 (whole_in b m y)) ≡ step_from q b m y
+  whole_is = held whole_sum (sfits_size S.fits)
 
 -- ---- any q, in 64 bits; xb, xm and xy as they stand in the machine
 
 -- the quotient there
-abbrev quotientIn : ℕ → ℤ → ℤ → ℤ
-quotientIn q xb xm = quot_z (to_z w64 (of_z w64 (to_z w64 (of_z w64 (xb -ℤ xm)) *ℤ to_z w64 q))) (pos scale)
+abbrev quotient_in : ℕ → ℤ → ℤ → ℤ
+quotient_in q xb xm = quot_z (to_z w64 (of_z w64 (to_z w64 (of_z w64 (xb -ℤ xm)) *ℤ to_z w64 q))) (pos scale)
 
 module _ {xb xm xy b m y : ℤ} {q : ℕ} (S : SampleStepAsked y b m q) (eb : xb ≡ b) (em : xm ≡ m) (ey : xy ≡ y) where
   residual : xb -ℤ xm ≡ b -ℤ m
   residual = ap₂ ◌-ℤ◌ eb em
 
   residual-size : nat_abs (b -ℤ m) ≤ 1069547520
-  residual-size = omega (arith, natAbs-sub b m, S.byte, S.small)
+  residual-size = omega (arith, nat_abs_sub b m, S.byte, S.small)
 
   residual-fits : SFits w64 (b -ℤ m)
-  residual-fits = sfits-size (omega (arith, residual-size))
+  residual-fits = sfits_size (omega (arith, residual-size))
 
-  pub cut-subs : SFits w64 (xb -ℤ xm)
-  cut-subs = fits-as residual residual-fits
+  pub cut_subs : SFits w64 (xb -ℤ xm)
+  cut_subs = fits_as residual residual-fits
 
   product : to_z w64 (of_z w64 (xb -ℤ xm)) *ℤ to_z w64 q ≡ (b -ℤ m) *ℤ pos q
   product = ap₂ ◌*ℤ◌ (held residual residual-fits) (to_z_pos w64 (omega (arith, S.gain)))
 
-  product-fits : SFits w64 ((b -ℤ m) *ℤ pos q)
-  product-fits = sfits-size (rw (nat_abs_mul (b -ℤ m) (pos q)) (omega (arith, mul-le-mul residual-size S.gain)))
+  product_fits : SFits w64 ((b -ℤ m) *ℤ pos q)
+  product_fits = sfits_size (rw (nat_abs_mul (b -ℤ m) (pos q)) (omega (arith, mul-le-mul residual-size S.gain)))
 
-  pub cut-muls : SFits w64 (to_z w64 (of_z w64 (xb -ℤ xm)) *ℤ to_z w64 q)
-  cut-muls = fits-as product product-fits
+  pub cut_muls : SFits w64 (to_z w64 (of_z w64 (xb -ℤ xm)) *ℤ to_z w64 q)
+  cut_muls = fits_as product product_fits
 
-  quotient : quotientIn q xb xm ≡ quot_z ((b -ℤ m) *ℤ pos q) (pos scale)
-  quotient = ap (λ (z : ℤ). quot_z z (pos scale)) (held product product-fits)
+  quotient : quotient_in q xb xm ≡ quot_z ((b -ℤ m) *ℤ pos q) (pos scale)
+  quotient = ap (λ (z : ℤ). quot_z z (pos scale)) (held product product_fits)
 
   quotient_fits : SFits w64 (quot_z ((b -ℤ m) *ℤ pos q) (pos scale))
-  quotient_fits = sfits-quot (pos-≤ℤ (omega arith)) product-fits
+  quotient_fits = sfits_quot (pos-≤ℤ (omega arith)) product_fits
 
-  pub cut-divides : (0 < scale) × SFits w64 (quotientIn q xb xm)
-  cut-divides = (omega arith, fits-as quotient quotient_fits)
+  pub cut_divides : (0 < scale) × SFits w64 (quotient_in q xb xm)
+  cut_divides = (omega arith, fits_as quotient quotient_fits)
 
-  sum : xy +ℤ to_z w64 (of_z w64 (quotientIn q xb xm)) ≡ stepFrom q b m y
+  sum : xy +ℤ to_z w64 (of_z w64 (quotient_in q xb xm)) ≡ step_from q b m y
   sum = ap₂ ◌+ℤ◌ ey (held quotient quotient_fits)
 
-  sum_fits : SFits w64 (stepFrom q b m y)
-  sum_fits = sfits-size (omega (arith, S.fits))
+  sum_fits : SFits w64 (step_from q b m y)
+  sum_fits = sfits_size (omega (arith, S.fits))
 
-  pub cut-adds : SFits w64 (xy +ℤ to_z w64 (of_z w64 (quotientIn q xb xm)))
-  cut-adds = fits-as sum sum_fits
+  pub cut_adds : SFits w64 (xy +ℤ to_z w64 (of_z w64 (quotient_in q xb xm)))
+  cut_adds = fits_as sum sum_fits
 
-  pub cut-is : to_z w64 (of_z w64 (xy +ℤ to_z w64 (of_z w64 (quotientIn q xb xm)))) ≡ stepFrom q b m y
-  cut-is = held sum sum_fits
+  pub cut_is : to_z w64 (of_z w64 (xy +ℤ to_z w64 (of_z w64 (quotient_in q xb xm)))) ≡ step_from q b m y
+  cut_is = held sum sum_fits
 
 -- ---- along a line
 
 module _ {n q : ℕ} {old : List ℤ} (A : StepAsked n q old) where
-  pub stepped-none : LineStepped n 0 q old old
-  stepped-none = record { written = written_none λ j _. part_none n j }
+  pub stepped_none : LineStepped n 0 q old old
+  stepped_none = record { written = written_none λ j _. part_none n j }
 
   module _ {k : ℕ} {new : List ℤ} (L : LineStepped n k q old new) (h : k < n) where
-    pub estimate-kept : line_at n new k ≡ line_at n old k
-    estimate-kept = written-kept L.written (n + k) (part-after n k (n + k) (omega arith))
+    pub estimate_kept : line_at n new k ≡ line_at n old k
+    estimate_kept = written_kept L.written (n + k) (part_after n k (n + k) (omega arith))
 
-    pub observed-kept : get_or new k (pos 0) ≡ line_at 0 old k
-    observed-kept =
-        written-kept L.written k (part-before n k k h) ∙ ap (λ (i : ℕ). get_or old i (pos 0)) (sym (zero-add k))
+    pub observed_kept : get_or new k (pos 0) ≡ line_at 0 old k
+    observed_kept =
+        written_kept L.written k (part_before n k k h) ∙ ap (λ (i : ℕ). get_or old i (pos 0)) (sym (zero-add k))
 
-    pub mean-kept : line_at (n + n) new k ≡ line_at (n + n) old k
-    mean-kept = written-kept L.written (n + n + k) (part-after n k (n + n + k) (omega arith))
+    pub mean_kept : line_at (n + n) new k ≡ line_at (n + n) old k
+    mean_kept = written_kept L.written (n + n + k) (part_after n k (n + n + k) (omega arith))
 
     -- what the step of sample k asks, of the values as they are read
-    pub step-asked : {y b m : ℤ} → y ≡ line_at n new k → b ≡ get_or new k (pos 0) → m ≡ line_at (n + n) new k
+    pub step_asked : {y b m : ℤ} → y ≡ line_at n new k → b ≡ get_or new k (pos 0) → m ≡ line_at (n + n) new k
         → SampleStepAsked y b m q
-    step-asked d e f = rw (d ∙ estimate-kept, e ∙ observed-kept, f ∙ mean-kept) (A.each k h)
+    step_asked d e f = rw (d ∙ estimate_kept, e ∙ observed_kept, f ∙ mean_kept) (A.each k h)
 
-    pub stepped-next : (v : ℤ) {y b m : ℤ} → y ≡ line_at n new k → b ≡ get_or new k (pos 0) → m ≡ line_at (n + n) new k
-        → v ≡ stepFrom q b m y → LineStepped n (k + 1) q old (set new (n + k) v)
-    stepped-next v d e f g =
+    pub stepped_next : (v : ℤ) {y b m : ℤ} → y ≡ line_at n new k → b ≡ get_or new k (pos 0) → m ≡ line_at (n + n) new k
+        → v ≡ step_from q b m y → LineStepped n (k + 1) q old (set new (n + k) v)
+    stepped_next v d e f g =
         record {
           written =
-              written-set (n + k) v L.written
+              written_set (n + k) v L.written
               (rw L.written.same_length (omega (arith, A.room)))
-              (g ∙ rw (d ∙ estimate-kept, e ∙ observed-kept, f ∙ mean-kept, add-sub_cancel_left n k) refl)
-              (part-next n k);
+              (g ∙ rw (d ∙ estimate_kept, e ∙ observed_kept, f ∙ mean_kept, add-sub_cancel_left n k) refl)
+              (part_next n k);
         }

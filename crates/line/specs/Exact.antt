@@ -21,5 +21,5 @@ pub record Fraction : Type 0 where
   pub denominator : ℕ
 
 -- "The exact value after k is Nk / S^k."
-abbrev pub valueAfter : ℕ → ℕ → ℤ → Fraction
-valueAfter taps k N = record { numerator = N; denominator = scale_of taps ^ k }
+abbrev pub value_after : ℕ → ℕ → ℤ → Fraction
+value_after taps k N = record { numerator = N; denominator = scale_of taps ^ k }

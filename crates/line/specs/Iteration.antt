@@ -13,12 +13,12 @@ unfoldable pub mean : {P : Type 0} → Window P → ℕ → (P → ℤ) → P �
 mean W taps y p = shr_z (W y p) taps
 
 -- one step from y, with the observed b and the mean m: y + (b − m) × q / 65,536, the quotient cut toward zero
-abbrev pub stepFrom : ℕ → ℤ → ℤ → ℤ → ℤ
-stepFrom q b m y = y +ℤ quot_z ((b -ℤ m) *ℤ pos q) (pos scale)
+abbrev pub step_from : ℕ → ℤ → ℤ → ℤ → ℤ
+step_from q b m y = y +ℤ quot_z ((b -ℤ m) *ℤ pos q) (pos scale)
 
 -- "Y(k+1) = Yk + (B − mean of Yk) × q / 65,536, the quotient cut toward zero"
 unfoldable pub stepped : {P : Type 0} → Window P → ℕ → (P → ℤ) → ℕ → (P → ℤ) → P → ℤ
-stepped W taps b q y p = stepFrom q (b p) (mean W taps y p) (y p)
+stepped W taps b q y p = step_from q (b p) (mean W taps y p) (y p)
 
 -- the estimate after k iterations, Y0 = B
 unfoldable pub after : {P : Type 0} → Window P → ℕ → (P → ℤ) → ℕ → ℕ → P → ℤ

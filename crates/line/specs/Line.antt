@@ -10,13 +10,13 @@ use Rattle.line.specs.Iteration as iteration
 
 -- ---- "Mean along a line"
 
-abbrev pub fromSource : (ℕ → ℤ) → BorderSample → ℤ
-fromSource f (Inside i) = f i
-fromSource f (Outside v) = pos v
+abbrev pub from_source : (ℕ → ℤ) → BorderSample → ℤ
+from_source f (Inside i) = f i
+from_source f (Outside v) = pos v
 
 -- the sample at a place of the line, or outside it
 unfoldable pub sample : (ℤ → BorderSample) → (ℕ → ℤ) → ℤ → ℤ
-sample m f p = fromSource f (m p)
+sample m f p = from_source f (m p)
 
 -- the sum of L samples from p − L/2 to p + L/2 (L/2 whole)
 unfoldable pub window : (ℤ → BorderSample) → ℕ → (ℕ → ℤ) → ℕ → ℤ

@@ -13,18 +13,18 @@ abbrev pub bound : ℕ → ℕ
 bound k = 2 ^ (k + 1) - 2
 
 -- .. "and less than 2^k − 1 at relaxation 1"
-abbrev pub boundAtOne : ℕ → ℕ
-boundAtOne k = 2 ^ k - 1
+abbrev pub bound_at_one : ℕ → ℕ
+bound_at_one k = 2 ^ k - 1
 
 -- y lies that near to x
 pub record Near (q k : ℕ) (y : ℤ) (x : Fraction) : Type 0 where
   pub near : LessFrom (bound k) y x
-  pub near-at-one : q ≡ scale → LessFrom (boundAtOne k) y x
+  pub near_at_one : q ≡ scale → LessFrom (bound_at_one k) y x
 
 -- x cut to 0..255, the denominator kept
-abbrev pub cutNumerator : ℤ → ℕ → ℕ
-cutNumerator (pos n) denominator = min n (255 * denominator)
-cutNumerator (negsuc n) denominator = 0
+abbrev pub cut_numerator : ℤ → ℕ → ℕ
+cut_numerator (pos n) denominator = min n (255 * denominator)
+cut_numerator (negsuc n) denominator = 0
 
 abbrev pub cut : Fraction → Fraction
-cut x = record { numerator = pos (cutNumerator x.numerator x.denominator); denominator = x.denominator }
+cut x = record { numerator = pos (cut_numerator x.numerator x.denominator); denominator = x.denominator }

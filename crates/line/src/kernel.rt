@@ -1,6 +1,6 @@
 // One line's restoration, in a scratch of three parts: the observed samples, the estimate, and the estimate's mean.
 ghost use Rattle.std.specs.Prelude.{◌+◌, length};
-ghost use Rattle.line.specs.Kernel.{LineAsked, KernelAsked, bytesOn, line_at, LineRestored};
+ghost use Rattle.line.specs.Kernel.{LineAsked, KernelAsked, bytes_on, line_at, LineRestored};
 ghost use Rattle.line.specs.Kernel.{Gathered, Iterated, IterationAsked};
 
 use crate::mean::{MeanSettings, line_mean, reciprocal_of};
@@ -27,7 +27,7 @@ impl LineKernel {
 // The bytes of a line into the first and the second part of the scratch: the observed samples, and the first estimate.
 pub fn gather(data: &[u8], start: usize, step: usize, n: usize, scratch: &mut [i32])
     requires { LineAsked (length «data».now) start step n (length scratch.old) }
-    ensures { Gathered (bytesOn «data».now start step) n scratch.new }
+    ensures { Gathered (bytes_on «data».now start step) n scratch.new }
 {
     let mut i = 0;
     while i < n {

@@ -1,7 +1,7 @@
 // The mean of a line's estimate, from the second part of the scratch into the third.
 ghost use Rattle.std.specs.Prelude.{◌≡◌, ◌*◌, ◌-◌, ◌+◌, ◌/◌, ◌≤◌, ◌<◌, nat_abs};
 ghost use Rattle.std.specs.Int.Signed.{shr_z};
-ghost use Rattle.line.specs.Kernel.{longestBlur, largest, Reciprocal, MeanAsked, windowAt, MeansWritten};
+ghost use Rattle.line.specs.Kernel.{longest_blur, largest, Reciprocal, MeanAsked, window_at, MeansWritten};
 
 use crate::window::{first_window, sample_at, slide};
 use numbers::{floor_div, narrow_i64, signed};
@@ -18,7 +18,7 @@ pub struct MeanSettings {
 
 // The reciprocal of the length, which divides the sums of the first 10 iterations; 0 for the larger ones of the others.
 pub(crate) fn reciprocal_of(blur_length: usize, iteration: usize) -> u64
-    requires { (1 ≤ blur_length) × (blur_length ≤ longestBlur) }
+    requires { (1 ≤ blur_length) × (blur_length ≤ longest_blur) }
     ensures { Reciprocal blur_length result × (0 < result → iteration < 10) }
 {
     if iteration < 10 {
@@ -55,9 +55,9 @@ fn mean_edge(
     first: i64,
 ) -> i64
     requires { MeanAsked settings scratch.old × (start ≤ end) × (end ≤ settings.n)
-        × (first ≡ windowAt settings scratch.old start) }
+        × (first ≡ window_at settings scratch.old start) }
     ensures { MeansWritten settings start end scratch.old scratch.new
-        × (result ≡ windowAt settings scratch.old end) }
+        × (result ≡ window_at settings scratch.old end) }
 {
     let n = settings.n;
     let border = settings.border;
@@ -84,9 +84,9 @@ fn mean_inside(
 ) -> i64
     requires { MeanAsked settings scratch.old × (start ≤ end) × (settings.blur_length / 2 ≤ start)
         × (end + (settings.blur_length - settings.blur_length / 2) ≤ settings.n)
-        × (first ≡ windowAt settings scratch.old start) }
+        × (first ≡ window_at settings scratch.old start) }
     ensures { MeansWritten settings start end scratch.old scratch.new
-        × (result ≡ windowAt settings scratch.old end) }
+        × (result ≡ window_at settings scratch.old end) }
 {
     let n = settings.n;
     let half = settings.blur_length / 2;

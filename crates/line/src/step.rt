@@ -1,6 +1,6 @@
 // One step of a line's estimate.
 ghost use Rattle.std.specs.Prelude.{◌≡◌};
-ghost use Rattle.line.specs.Iteration.{stepFrom};
+ghost use Rattle.line.specs.Iteration.{step_from};
 ghost use Rattle.line.specs.Kernel.{SampleStepAsked, StepAsked, LineStepped};
 
 use floats::Quantized;
@@ -11,7 +11,7 @@ const SCALE: i64 = Quantized::SCALE as i64;
 // One sample's step, with the residual times q cut toward zero.
 fn step_from(y: i32, observed: i32, mean: i32, q: u32) -> i32
     requires { SampleStepAsked y observed mean q }
-    ensures { result ≡ stepFrom q observed mean y }
+    ensures { result ≡ step_from q observed mean y }
 {
     if q == Quantized::SCALE {
         return y + (observed - mean);

@@ -2,10 +2,10 @@
 ghost use Rattle.std.specs.Prelude.{◌≡◌, ◌*◌, ◌^◌, ◌≤◌, ◌<◌, pos, nat_abs, ◌+ℤ◌, ◌-ℤ◌, ◌*ℤ◌, length};
 ghost use Rattle.std.proofs.Math.IntN.{sub_ℕ};
 ghost use Rattle.numbers.specs.Sum.{total};
-ghost use Rattle.image.specs.Refusal.{maxSide};
-ghost use Rattle.raster.specs.Border.{borderMap};
+ghost use Rattle.image.specs.Refusal.{max_side};
+ghost use Rattle.raster.specs.Border.{border_map};
 ghost use Rattle.line.specs.Line.{sample};
-ghost use Rattle.line.specs.Kernel.{longestBlur, line_at, MeanAsked, mapOf, windowAt};
+ghost use Rattle.line.specs.Kernel.{longest_blur, line_at, MeanAsked, map_of, window_at};
 ghost use Rattle.line.specs.Kernel.{opening, FlatBorder, PeriodicBorder};
 
 use crate::mean::MeanSettings;
@@ -20,8 +20,8 @@ pub(crate) fn sample_at(
     half: usize,
     border: LineBorderMode,
 ) -> i32
-    requires { (1 ≤ n) × (n ≤ maxSide) × (3 * n ≤ length scratch.now) }
-    ensures { result ≡ sample (borderMap border n) (line_at n scratch.now) (sub_ℕ u half) }
+    requires { (1 ≤ n) × (n ≤ max_side) × (3 * n ≤ length scratch.now) }
+    ensures { result ≡ sample (border_map border n) (line_at n scratch.now) (sub_ℕ u half) }
 {
     let source = border_index(u, half, n, border);
     match source {
@@ -71,7 +71,7 @@ fn line_sum(scratch: &[i32], settings: MeanSettings, count: usize) -> i64
 }
 
 fn times(count: usize, v: i64) -> i64
-    requires { (count ≤ longestBlur) × (nat_abs v < 2 ^ 51) }
+    requires { (count ≤ longest_blur) × (nat_abs v < 2 ^ 51) }
     ensures { result ≡ pos count *ℤ v }
 {
     signed(count) * v
@@ -79,8 +79,8 @@ fn times(count: usize, v: i64) -> i64
 
 // The sum of the window at the first place, of a border that has one sample before the line and one behind it.
 fn flat_window(scratch: &[i32], settings: MeanSettings) -> i64
-    requires { MeanAsked settings scratch.now × FlatBorder settings.n (mapOf settings) }
-    ensures { result ≡ windowAt settings scratch.now 0 }
+    requires { MeanAsked settings scratch.now × FlatBorder settings.n (map_of settings) }
+    ensures { result ≡ window_at settings scratch.now 0 }
 {
     let n = settings.n;
     let border = settings.border;
@@ -97,8 +97,8 @@ fn flat_window(scratch: &[i32], settings: MeanSettings) -> i64
 
 // The sum of the window at the first place, of a border that comes again after a period: whole periods and a rest.
 fn periodic_window(scratch: &[i32], settings: MeanSettings, period: usize) -> i64
-    requires { MeanAsked settings scratch.now × PeriodicBorder period (mapOf settings) }
-    ensures { result ≡ windowAt settings scratch.now 0 }
+    requires { MeanAsked settings scratch.now × PeriodicBorder period (map_of settings) }
+    ensures { result ≡ window_at settings scratch.now 0 }
 {
     let blur_length = settings.blur_length;
     if blur_length < period {
@@ -111,7 +111,7 @@ fn periodic_window(scratch: &[i32], settings: MeanSettings, period: usize) -> i6
 // The sum of the window at the first place, in time that does not grow with the length.
 pub(crate) fn first_window(scratch: &[i32], settings: MeanSettings) -> i64
     requires { MeanAsked settings scratch.now }
-    ensures { result ≡ windowAt settings scratch.now 0 }
+    ensures { result ≡ window_at settings scratch.now 0 }
 {
     let border = settings.border;
     match border {

@@ -31,15 +31,15 @@ module _ {ℓ} {A : Type ℓ} where
         ap (λ (k : ℕ). get_or (take a l ++ (ys ++ drop n (drop a l))) k d) e
         ∙ get_or-append-add (take a l) (ys ++ drop n (drop a l)) (j - a) d
 
-    pub getD-back-before : j < a → get_or (take a l ++ (ys ++ drop n (drop a l))) j d ≡ get_or l j d
-    getD-back-before h =
+    pub get_or_back_before : j < a → get_or (take a l ++ (ys ++ drop n (drop a l))) j d ≡ get_or l j d
+    get_or_back_before h =
         get_or-append (take a l) (ys ++ drop n (drop a l)) d j (rw front_length h) ∙ get_or-take a l j d h
 
-    pub getD-back-within : a ≤ j → j < a + n → get_or (take a l ++ (ys ++ drop n (drop a l))) j d ≡ get_or ys (j - a) d
-    getD-back-within h k = from-part h ∙ get_or-append ys (drop n (drop a l)) d (j - a) (omega arith)
+    pub get_or_back_within : a ≤ j → j < a + n → get_or (take a l ++ (ys ++ drop n (drop a l))) j d ≡ get_or ys (j - a) d
+    get_or_back_within h k = from-part h ∙ get_or-append ys (drop n (drop a l)) d (j - a) (omega arith)
 
-    pub getD-back-after : a + n ≤ j → get_or (take a l ++ (ys ++ drop n (drop a l))) j d ≡ get_or l j d
-    getD-back-after h =
+    pub get_or_back_after : a + n ≤ j → get_or (take a l ++ (ys ++ drop n (drop a l))) j d ≡ get_or l j d
+    get_or_back_after h =
         let e : j - a ≡ length ys + (j - a - n) = omega arith in
         let f : a + (n + (j - a - n)) ≡ j = omega arith in
         from-part (omega arith)

@@ -18,11 +18,11 @@ use lib.Arith.{digits_div, digits_mod}
 
 -- ---- products
 
-pub le-mul-of-pos-left : {m : ℕ} (n : ℕ) → 0 < m → n ≤ m * n
-le-mul-of-pos-left {m} n h = rw (mul_comm m n) (le-mul_of_pos_right n h)
+pub le_mul_of_pos_left : {m : ℕ} (n : ℕ) → 0 < m → n ≤ m * n
+le_mul_of_pos_left {m} n h = rw (mul_comm m n) (le-mul_of_pos_right n h)
 
-pub add-one-mul : (y s : ℕ) → (y + 1) * s ≡ y * s + s
-add-one-mul y s = add-mul y 1 s ∙ ap (λ (k : ℕ). y * s + k) (one-mul s)
+pub add_one_mul : (y s : ℕ) → (y + 1) * s ≡ y * s + s
+add_one_mul y s = add-mul y 1 s ∙ ap (λ (k : ℕ). y * s + k) (one-mul s)
 
 -- ---- division by a variable
 
@@ -32,13 +32,13 @@ div_mono {a} {b} s h =
     (λ (p : 0 < s). (le-div_iff_mul-le p).1 (le_trans (div-mul-le_self a s) h)) (eq-zero-or-pos s)
 
 -- the quotient and the remainder are the only ones
-pub div-mod-unique : {j s x : ℕ} (y : ℕ) → j ≡ y * s + x → x < s → (j / s ≡ y) × (j % s ≡ x)
-div-mod-unique {s = s} y e h = (ap (λ (k : ℕ). k / s) e ∙ digits_div y h, ap (λ (k : ℕ). k % s) e ∙ digits_mod y h)
+pub div_mod_unique : {j s x : ℕ} (y : ℕ) → j ≡ y * s + x → x < s → (j / s ≡ y) × (j % s ≡ x)
+div_mod_unique {s = s} y e h = (ap (λ (k : ℕ). k / s) e ∙ digits_div y h, ap (λ (k : ℕ). k % s) e ∙ digits_mod y h)
 
 -- Division by L as a multiplication by the reciprocal m = s / L + 1 in units of 1 / s, which exceeds s / L by 1 at
 -- most: N / L ≤ N × m / s, and N × m × L ≤ N × s + N × L < (N + 1) × s.
-pub div-by-mul : {s : ℕ} (n l : ℕ) → 0 < l → n * l < s → n / l ≡ n * (s / l + 1) / s
-div-by-mul {s} n l p h = sym (div-eq_of_lt-le s low high)
+pub div_by_mul : {s : ℕ} (n l : ℕ) → 0 < l → n * l < s → n / l ≡ n * (s / l + 1) / s
+div_by_mul {s} n l p h = sym (div-eq_of_lt-le s low high)
   where
     low : n / l * s ≤ n * (s / l + 1)
     low = le_trans (mul-le-mul_left (n / l) (le_of_lt (lt-mul-div-succ s p)))
@@ -48,9 +48,9 @@ div-by-mul {s} n l p h = sym (div-eq_of_lt-le s low high)
     scaled =
         let a : n * (s / l + 1) * l ≡ n * (s / l * l) + n * l = simp (mul-add, add-mul, mul-one, mul_assoc) in
         let b : n * (s / l * l) ≤ n * s = mul-le-mul_left n (div-mul-le_self s l) in
-        let d : (n + 1) * s ≡ n * s + s = add-one-mul n s in
+        let d : (n + 1) * s ≡ n * s + s = add_one_mul n s in
         let e : (n + 1) * s ≤ (n / l + 1) * l * s =
-        mul-le-mul_right s (omega (arith, add-one-mul (n / l) l, lt-div-mul-add {a = n} p)) in
+        mul-le-mul_right s (omega (arith, add_one_mul (n / l) l, lt-div-mul-add {a = n} p)) in
         let f : (n / l + 1) * l * s ≡ (n / l + 1) * s * l = mul_right_comm (n / l + 1) l s in
         omega arith
 
@@ -60,13 +60,13 @@ div-by-mul {s} n l p h = sym (div-eq_of_lt-le s low high)
 -- ---- a place by its row and its column
 
 -- every place of a picture, w by h with stride s, lies before its end
-pub place-lt : {x y w h : ℕ} (s : ℕ) → x < w → y < h → y * s + x < (h - 1) * s + w
-place-lt {y = y} {h = h} s p q = let e : y * s ≤ (h - 1) * s = mul-le-mul_right s (omega arith) in omega arith
+pub place_lt : {x y w h : ℕ} (s : ℕ) → x < w → y < h → y * s + x < (h - 1) * s + w
+place_lt {y = y} {h = h} s p q = let e : y * s ≤ (h - 1) * s = mul-le-mul_right s (omega arith) in omega arith
 
 -- ---- parity
 
-pub even-or-odd : (n : ℕ) → (n % 2 ≡ 0) ⊎ (n % 2 ≡ 1)
-even-or-odd n = go (n % 2) (mod-lt n (zero-lt-suc 1))
+pub even_or_odd : (n : ℕ) → (n % 2 ≡ 0) ⊎ (n % 2 ≡ 1)
+even_or_odd n = go (n % 2) (mod-lt n (zero-lt-suc 1))
   where
     go : (r : ℕ) → r < 2 → (r ≡ 0) ⊎ (r ≡ 1)
     go zero h = inl (omega arith)
@@ -74,5 +74,5 @@ even-or-odd n = go (n % 2) (mod-lt n (zero-lt-suc 1))
 
 -- ---- powers of two
 
-pub two-pow-more : (k : ℕ) → 2 ^ (k + 1) ≡ 2 ^ k + 2 ^ k
-two-pow-more k = ap (λ (n : ℕ). 2 ^ n) (add-one k) ∙ two-pow-succ k
+pub two_pow_more : (k : ℕ) → 2 ^ (k + 1) ≡ 2 ^ k + 2 ^ k
+two_pow_more k = ap (λ (n : ℕ). 2 ^ n) (add-one k) ∙ two-pow-succ k

@@ -8,27 +8,27 @@ use lib.Signed.{◌≤ℤ◌, ◌<ℤ◌}
 use mir.Syntax.{Width}
 use mir.Val.{SFits, hbits, to_z, of_z}
 use mir.Facts.{to_z-of_z}
-use Rattle.numbers.specs.Scalar.{clampByte}
+use Rattle.numbers.specs.Scalar.{clamp_byte}
 use Rattle.numbers.proofs.Int.Linear.{linear}
 use Rattle.numbers.proofs.Int.Order.{negℤ-mono, suc-≤ℤ}
-use Rattle.numbers.proofs.Int.Size.{natAbs-neg, sfits-size, size-sfits}
-use Rattle.numbers.proofs.Int.Machine.{fits-as, held, neg-fits, neg-held}
+use Rattle.numbers.proofs.Int.Size.{nat_abs_neg, sfits_size, size_sfits}
+use Rattle.numbers.proofs.Int.Machine.{fits_as, held, neg_fits, neg_held}
 
 -- ---- the cut to a byte
 
-pub clamp-below : {z : ℤ} → z ≤ℤ pos 0 → clampByte z ≡ 0
-clamp-below {z = pos n} h = omega (arith, linear)
-clamp-below {z = negsuc n} h = refl
+pub clamp_below : {z : ℤ} → z ≤ℤ pos 0 → clamp_byte z ≡ 0
+clamp_below {z = pos n} h = omega (arith, linear)
+clamp_below {z = negsuc n} h = refl
 
-pub clamp-above : {z : ℤ} → pos 255 ≤ℤ z → clampByte z ≡ 255
-clamp-above {z = pos n} h = omega (arith, linear)
-clamp-above {z = negsuc n} h = omega (arith, linear)
+pub clamp_above : {z : ℤ} → pos 255 ≤ℤ z → clamp_byte z ≡ 255
+clamp_above {z = pos n} h = omega (arith, linear)
+clamp_above {z = negsuc n} h = omega (arith, linear)
 
-pub clamp-within : {z : ℤ} → pos 0 ≤ℤ z → z ≤ℤ pos 255 → clampByte z ≡ nat_abs z
-clamp-within {z = pos n} h k = omega (arith, linear)
-clamp-within {z = negsuc n} h k = omega (arith, linear)
+pub clamp_within : {z : ℤ} → pos 0 ≤ℤ z → z ≤ℤ pos 255 → clamp_byte z ≡ nat_abs z
+clamp_within {z = pos n} h k = omega (arith, linear)
+clamp_within {z = negsuc n} h k = omega (arith, linear)
 
-pub clamp-≤ : (z : ℤ) → clampByte z ≤ 255
+pub clamp-≤ : (z : ℤ) → clamp_byte z ≤ 255
 clamp-≤ (pos n) = omega arith
 clamp-≤ (negsuc n) = omega arith
 
@@ -43,25 +43,25 @@ module _ {w : Width} {v : ℤ} (f : SFits w v) (h : v <ℤ pos 0) where
       go (negsuc (suc n)) k = rw (+ℤ_one (negsuc (suc n))) (omega arith)
 
   small : nat_abs (v +ℤ pos 1) < 2 ^ hbits w
-  small = omega (arith, up-size, size-sfits f)
+  small = omega (arith, up-size, size_sfits f)
 
   up_is : to_z w (of_z w v) +ℤ pos 1 ≡ v +ℤ pos 1
   up_is = ap (◌+ℤ pos 1) (to_z-of_z f)
 
-  pub abs-up-fits : SFits w (to_z w (of_z w v) +ℤ pos 1)
-  abs-up-fits = fits-as up_is (sfits-size small)
+  pub abs_up_fits : SFits w (to_z w (of_z w v) +ℤ pos 1)
+  abs_up_fits = fits_as up_is (sfits_size small)
 
-  pub abs-turn-fits : SFits w (pos 0 -ℤ to_z w (of_z w (to_z w (of_z w v) +ℤ pos 1)))
-  abs-turn-fits = neg-fits w (held up_is (sfits-size small)) small
+  pub abs_turn_fits : SFits w (pos 0 -ℤ to_z w (of_z w (to_z w (of_z w v) +ℤ pos 1)))
+  abs_turn_fits = neg_fits w (held up_is (sfits_size small)) small
 
-  pub abs-turn : to_z w (of_z w (pos 0 -ℤ to_z w (of_z w (to_z w (of_z w v) +ℤ pos 1)))) ≡ neg_ℤ (v +ℤ pos 1)
-  abs-turn = neg-held w (held up_is (sfits-size small)) small
+  pub abs_turn : to_z w (of_z w (pos 0 -ℤ to_z w (of_z w (to_z w (of_z w v) +ℤ pos 1)))) ≡ neg_ℤ (v +ℤ pos 1)
+  abs_turn = neg_held w (held up_is (sfits_size small)) small
 
-  pub abs-turn-≥ : pos 0 ≤ℤ neg_ℤ (v +ℤ pos 1)
-  abs-turn-≥ = negℤ-mono (suc-≤ℤ h)
+  pub abs_turn-≥ : pos 0 ≤ℤ neg_ℤ (v +ℤ pos 1)
+  abs_turn-≥ = negℤ-mono (suc-≤ℤ h)
 
-  pub abs-turn-≤ : nat_abs (neg_ℤ (v +ℤ pos 1)) ≤ 2 ^ hbits w
-  abs-turn-≤ = rw (natAbs-neg (v +ℤ pos 1)) (le_of_lt small)
+  pub abs_turn-≤ : nat_abs (neg_ℤ (v +ℤ pos 1)) ≤ 2 ^ hbits w
+  abs_turn-≤ = rw (nat_abs_neg (v +ℤ pos 1)) (le_of_lt small)
 
-  pub abs-size : nat_abs (to_z w (of_z w (pos 0 -ℤ to_z w (of_z w (to_z w (of_z w v) +ℤ pos 1))))) + 1 ≡ nat_abs v
-  abs-size = ap (λ (x : ℤ). nat_abs x + 1) abs-turn ∙ ap (◌+ 1) (natAbs-neg (v +ℤ pos 1)) ∙ up-size
+  pub abs_size : nat_abs (to_z w (of_z w (pos 0 -ℤ to_z w (of_z w (to_z w (of_z w v) +ℤ pos 1))))) + 1 ≡ nat_abs v
+  abs_size = ap (λ (x : ℤ). nat_abs x + 1) abs_turn ∙ ap (◌+ 1) (nat_abs_neg (v +ℤ pos 1)) ∙ up-size

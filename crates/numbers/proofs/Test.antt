@@ -18,91 +18,91 @@ bool_cases true = inl refl
 bool_cases false = inr refl
 
 -- what holds where b is true and where it is false holds
-pub by-test {ℓ} : {P : Type ℓ} (b : Bool) → (b ≡ true → P) → (b ≡ false → P) → P
-by-test b f g = ⊎_elim f g (bool_cases b)
+pub by_test {ℓ} : {P : Type ℓ} (b : Bool) → (b ≡ true → P) → (b ≡ false → P) → P
+by_test b f g = ⊎_elim f g (bool_cases b)
 
 -- ---- false is not true
 
-pub false-not-true : {b : Bool} → b ≡ false → b ≡ true → ⊥
-false-not-true e q = false≢true (sym e ∙ q)
+pub false_not_true : {b : Bool} → b ≡ false → b ≡ true → ⊥
+false_not_true e q = false≢true (sym e ∙ q)
 
 pub false_of_not : (b : Bool) → (b ≡ true → ⊥) → b ≡ false
 false_of_not true h = absurd (h refl)
 false_of_not false h = refl
 
 -- tests that hold together are equal
-pub bool-ext : (a b : Bool) → (a ≡ true → b ≡ true) → (b ≡ true → a ≡ true) → a ≡ b
-bool-ext true b f g = sym (f refl)
-bool-ext false b f g = sym (false_of_not b (λ e. false≢true (g e)))
+pub bool_ext : (a b : Bool) → (a ≡ true → b ≡ true) → (b ≡ true → a ≡ true) → a ≡ b
+bool_ext true b f g = sym (f refl)
+bool_ext false b f g = sym (false_of_not b (λ e. false≢true (g e)))
 
 -- ---- `&&` and `||`
 
-pub and-false-right : (a : Bool) {b : Bool} → b ≡ false → (a && b) ≡ false
-and-false-right true e = e
-and-false-right false e = refl
+pub and_false_right : (a : Bool) {b : Bool} → b ≡ false → (a && b) ≡ false
+and_false_right true e = e
+and_false_right false e = refl
 
 pub or_cases : (a b : Bool) → (a || b) ≡ true → (a ≡ true) ⊎ (b ≡ true)
 or_cases true b e = inl refl
 or_cases false b e = inr e
 
-pub or-false-intro : {a b : Bool} → a ≡ false → b ≡ false → (a || b) ≡ false
-or-false-intro p q = rw (p, q)
+pub or_false_intro : {a b : Bool} → a ≡ false → b ≡ false → (a || b) ≡ false
+or_false_intro p q = rw (p, q)
 
-pub or-false-left : (a b : Bool) → (a || b) ≡ false → a ≡ false
-or-false-left true b e = e
-or-false-left false b e = refl
+pub or_false_left : (a b : Bool) → (a || b) ≡ false → a ≡ false
+or_false_left true b e = e
+or_false_left false b e = refl
 
-pub or-false-right : (a b : Bool) → (a || b) ≡ false → b ≡ false
-or-false-right true b e = absurd (true≢false e)
-or-false-right false b e = e
+pub or_false_right : (a b : Bool) → (a || b) ≡ false → b ≡ false
+or_false_right true b e = absurd (true≢false e)
+or_false_right false b e = e
 
 -- a holds where b or c does
-pub or-ext : (a b c : Bool) → (a ≡ true → (b ≡ true) ⊎ (c ≡ true)) → (b ≡ true → a ≡ true) → (c ≡ true → a ≡ true)
+pub or_ext : (a b c : Bool) → (a ≡ true → (b ≡ true) ⊎ (c ≡ true)) → (b ≡ true → a ≡ true) → (c ≡ true → a ≡ true)
     → a ≡ (b || c)
-or-ext a true c f g h = g refl
-or-ext a false true f g h = h refl
-or-ext a false false f g h = false_of_not a (λ e. ⊎_elim false≢true false≢true (f e))
+or_ext a true c f g h = g refl
+or_ext a false true f g h = h refl
+or_ext a false false f g h = false_of_not a (λ e. ⊎_elim false≢true false≢true (f e))
 
 -- a holds where b does and at the place i: how a test on places goes on by one place
-pub or-place : (a b : Bool) (i j : ℕ) → (a ≡ true → (j ≡ i → ⊥) → b ≡ true) → (b ≡ true → a ≡ true) → (j ≡ i → a ≡ true)
+pub or_place : (a b : Bool) (i j : ℕ) → (a ≡ true → (j ≡ i → ⊥) → b ≡ true) → (b ≡ true → a ≡ true) → (j ≡ i → a ≡ true)
     → a ≡ (b || eqb j i)
-or-place a b i j f g h =
-    or-ext a b (eqb j i) (λ e. by-test (eqb j i) inr (λ q. inl (f e (eqb-false j i q)))) g (λ e. h (eqb-true j i e))
+or_place a b i j f g h =
+    or_ext a b (eqb j i) (λ e. by_test (eqb j i) inr (λ q. inl (f e (eqb-false j i q)))) g (λ e. h (eqb-true j i e))
 
 -- ---- a test and the fact that it tells
 
-pub eqb-iff : (m n : ℕ) → (eqb m n ≡ true) ↔ (m ≡ n)
-eqb-iff m n = (eqb-true m n, eq-eqb m n)
+pub eqb_iff : (m n : ℕ) → (eqb m n ≡ true) ↔ (m ≡ n)
+eqb_iff m n = (eqb-true m n, eq-eqb m n)
 
 pub ltb_iff : (m n : ℕ) → (ltb m n ≡ true) ↔ (m < n)
 ltb_iff m n = (ltb-true m n, lt-ltb m n)
 
 -- orders that hold together
-pub leb-same : (m n p q : ℕ) → (m ≤ n → p ≤ q) → (p ≤ q → m ≤ n) → leb m n ≡ leb p q
-leb-same m n p q f g =
-    bool-ext (leb m n) (leb p q) (λ t. le-leb p q (f (leb-true m n t))) (λ t. le-leb m n (g (leb-true p q t)))
+pub leb_same : (m n p q : ℕ) → (m ≤ n → p ≤ q) → (p ≤ q → m ≤ n) → leb m n ≡ leb p q
+leb_same m n p q f g =
+    bool_ext (leb m n) (leb p q) (λ t. le-leb p q (f (leb-true m n t))) (λ t. le-leb m n (g (leb-true p q t)))
 
 -- a test that fails
-pub false-iff {ℓ} : {A : Type ℓ} (a : Bool) → (a ≡ true) ↔ A → (a ≡ false) ↔ (A → ⊥)
-false-iff a f = (λ e x. false-not-true e (f.1 x), λ h. false_of_not a (λ e. h (f.0 e)))
+pub false_iff {ℓ} : {A : Type ℓ} (a : Bool) → (a ≡ true) ↔ A → (a ≡ false) ↔ (A → ⊥)
+false_iff a f = (λ e x. false_not_true e (f.1 x), λ h. false_of_not a (λ e. h (f.0 e)))
 
 module _ {ℓ κ} {A : Type ℓ} {B : Type κ} where
-  pub or-iff : (a b : Bool) → (a ≡ true) ↔ A → (b ≡ true) ↔ B → ((a || b) ≡ true) ↔ (A ⊎ B)
-  or-iff true b f g = (λ _. inl (f.0 refl), λ _. refl)
-  or-iff false b f g = (λ e. inr (g.0 e), ⊎_elim (λ x. absurd (false≢true (f.1 x))) g.1)
+  pub or_iff : (a b : Bool) → (a ≡ true) ↔ A → (b ≡ true) ↔ B → ((a || b) ≡ true) ↔ (A ⊎ B)
+  or_iff true b f g = (λ _. inl (f.0 refl), λ _. refl)
+  or_iff false b f g = (λ e. inr (g.0 e), ⊎_elim (λ x. absurd (false≢true (f.1 x))) g.1)
 
-  pub and-false-iff : (a b : Bool) → (a ≡ true) ↔ A → (b ≡ true) ↔ B → ((a && b) ≡ false) ↔ ((A → ⊥) ⊎ (B → ⊥))
-  and-false-iff true b f g =
-      (λ e. inr ((false-iff b g).0 e), ⊎_elim (λ h. absurd (h (f.0 refl))) (false-iff b g).1)
-  and-false-iff false b f g = (λ _. inl ((false-iff false f).0 refl), λ _. refl)
+  pub and_false_iff : (a b : Bool) → (a ≡ true) ↔ A → (b ≡ true) ↔ B → ((a && b) ≡ false) ↔ ((A → ⊥) ⊎ (B → ⊥))
+  and_false_iff true b f g =
+      (λ e. inr ((false_iff b g).0 e), ⊎_elim (λ h. absurd (h (f.0 refl))) (false_iff b g).1)
+  and_false_iff false b f g = (λ _. inl ((false_iff false f).0 refl), λ _. refl)
 
 -- ---- `cond`
 
-pub cond-true {ℓ} : {A : Type ℓ} {b : Bool} (x y : A) → b ≡ true → cond b x y ≡ x
-cond-true x y e = rw e
+pub cond_true {ℓ} : {A : Type ℓ} {b : Bool} (x y : A) → b ≡ true → cond b x y ≡ x
+cond_true x y e = rw e
 
-pub cond-false {ℓ} : {A : Type ℓ} {b : Bool} (x y : A) → b ≡ false → cond b x y ≡ y
-cond-false x y e = rw e
+pub cond_false {ℓ} : {A : Type ℓ} {b : Bool} (x y : A) → b ≡ false → cond b x y ≡ y
+cond_false x y e = rw e
 
 pub cond_same {ℓ} : {A : Type ℓ} (b : Bool) (x : A) → cond b x x ≡ x
 cond_same true x = refl
@@ -114,6 +114,6 @@ cond_both P true x y h k = h
 cond_both P false x y h k = k
 
 -- a function of a choice is the choice of its values
-pub ap-cond {ℓ κ} : {A : Type ℓ} {B : Type κ} (f : A → B) (b : Bool) (x y : A) → f (cond b x y) ≡ cond b (f x) (f y)
-ap-cond f true x y = refl
-ap-cond f false x y = refl
+pub ap_cond {ℓ κ} : {A : Type ℓ} {B : Type κ} (f : A → B) (b : Bool) (x y : A) → f (cond b x y) ≡ cond b (f x) (f y)
+ap_cond f true x y = refl
+ap_cond f false x y = refl

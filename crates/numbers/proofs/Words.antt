@@ -1,5 +1,5 @@
--- Numbers of two words: the product by its columns (`product-words`), with the sizes of the columns (`column_fits`,
--- `middle-fits`, `next_fits`, `upper_fits`), and which of two is larger (`by-words`).
+-- Numbers of two words: the product by its columns (`product_words`), with the sizes of the columns (`column_fits`,
+-- `middle_fits`, `next_fits`, `upper_fits`), and which of two is larger (`by_words`).
 use mathlib.Core.Bool.{◌&&◌, ◌||◌, and-eq-true_iff}
 use mathlib.Core.Logic.{inl, inr}
 use mathlib.Core.Path.{◌≡◌, refl, sym, ap₂, ◌∙◌}
@@ -13,8 +13,8 @@ use mir.Syntax.{w64}
 use mir.Val.{Fits}
 use Rattle.numbers.specs.declared.wide.Wide.{Wide}
 use Rattle.numbers.specs.Words.{words, whole}
-use Rattle.numbers.proofs.Nat.{div-mod-unique}
-use Rattle.numbers.proofs.Test.{by-test, or-ext}
+use Rattle.numbers.proofs.Nat.{div_mod_unique}
+use Rattle.numbers.proofs.Test.{by_test, or_ext}
 
 -- ---- the product, in halves of a word
 
@@ -45,8 +45,8 @@ pub column_fits : {a b : ℕ} → a < half → b < half → Fits w64 (a * b)
 column_fits {a} {b} h k = record { fits = omega (arith, most h k) }
 
 module _ (u v : ℕ) (hu : u < 2 ^ 64) (hv : v < 2 ^ 64) where
-  pub middle-fits : Fits w64 (middle u v)
-  middle-fits = record {
+  pub middle_fits : Fits w64 (middle u v)
+  middle_fits = record {
     fits = omega (
       arith,
       most {a = u / half} {b = v % half} (omega arith) (omega arith),
@@ -59,23 +59,23 @@ module _ (u v : ℕ) (hu : u < 2 ^ 64) (hv : v < 2 ^ 64) where
 
   pub upper_fits : Fits w64 (u / half * (v / half) + middle u v / half + next u v / half)
   upper_fits =
-      let m = middle-fits.fits in
+      let m = middle_fits.fits in
       let n = next_fits.fits in
       record { fits = omega (arith, most {a = u / half} {b = v / half} (omega arith) (omega arith)) }
 
 -- ---- the words
 
-pub product-words : (u v : ℕ)
+pub product_words : (u v : ℕ)
     → record {
       high = u / half * (v / half) + middle u v / half + next u v / half;
       low = next u v % half * half + u % half * (v % half) % half;
     } ≡ words (u * v)
-product-words u v =
+product_words u v =
     let cut : u * v ≡ (u / half * half + u % half) * (v / half * half + v % half) =
     ap₂ ◌*◌ (sym (div-add-mod' u half)) (sym (div-add-mod' v half)) in
     let columns = cut ∙ digits half (u / half) (u % half) (v / half) (v % half) in
     let low : next u v % half * half + u % half * (v % half) % half < 2 ^ 64 = omega arith in
-    let found = div-mod-unique (u / half * (v / half) + middle u v / half + next u v / half)
+    let found = div_mod_unique (u / half * (v / half) + middle u v / half + next u v / half)
     (columns ∙ omega arith) low in
     cc
 
@@ -84,12 +84,12 @@ whole_words n = div-add-mod' n (2 ^ 64)
 
 -- ---- which is larger
 
-pub by-words : (a b : Wide) → a.low < 2 ^ 64 → b.low < 2 ^ 64
+pub by_words : (a b : Wide) → a.low < 2 ^ 64 → b.low < 2 ^ 64
     → (ltb b.high a.high || (eqb a.high b.high && leb b.low a.low)) ≡ leb (whole b) (whole a)
-by-words a b ha hb =
+by_words a b ha hb =
     sym
-    (or-ext (leb (whole b) (whole a)) (ltb b.high a.high) (eqb a.high b.high && leb b.low a.low)
-    (λ t. by-test (ltb b.high a.high) inl (λ f. inr (
+    (or_ext (leb (whole b) (whole a)) (ltb b.high a.high) (eqb a.high b.high && leb b.low a.low)
+    (λ t. by_test (ltb b.high a.high) inl (λ f. inr (
     let l = leb-true (whole b) (whole a) t in
     let m = ltb-false b.high a.high f in
     let e : a.high ≡ b.high = omega arith in

@@ -12,9 +12,9 @@ count f zero = 0
 count f (suc k) = count f k + f k
 
 -- worked: 2 + 3 + 4, 0 + 1 + 4 + 9, and 1 − 2 + (2 − 2) with two terms
-two-to-four : total pos 2 3 ≡ pos 9
+two_to_four : total pos 2 3 ≡ pos 9
 unfolding total
-two-to-four = refl
+two_to_four = refl
 
 squares : count (λ i. i * i) 4 ≡ 14
 unfolding count

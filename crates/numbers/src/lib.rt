@@ -1,13 +1,13 @@
 // Scalar functions that the other crates share, each with its contract on ℕ or ℤ.
 ghost use Rattle.std.specs.Prelude.{◌≡◌, ◌<◌, ◌^◌, min, max, pos, nat_abs, ◌<ℤ◌};
 ghost use Rattle.std.specs.Int.Signed.{shr_z};
-ghost use Rattle.numbers.specs.Scalar.{clampByte};
+ghost use Rattle.numbers.specs.Scalar.{clamp_byte};
 
 pub mod wide;
 
 // v cut to 0..255.
 pub fn clamp_u8(v: i32) -> u8
-    ensures { result ≡ clampByte v }
+    ensures { result ≡ clamp_byte v }
 {
     if v < 0 {
         return 0;

@@ -8,11 +8,11 @@ use lib.ListN.{length, get_or, set, take, drop, length-append}
 use lib.Seq.{length-take-le, drop-drop, drop-cons, set_at}
 use Rattle.numbers.proofs.List.{length_part}
 use Rattle.image.specs.Call.{Appended}
-use Rattle.pgm.specs.Write.{digits, digitCount, decimal, numberLine}
-use Rattle.pgm.proofs.Digits.{length_digits, length-line}
+use Rattle.pgm.specs.Write.{digits, digit_count, decimal, number_line}
+use Rattle.pgm.proofs.Digits.{length_digits, length_line}
 
 -- a part of digits that has come back as ys, and an LF behind it
-module _ (n at e : ℕ) (old ys : List ℕ) (is : e ≡ at + digitCount n) (below : e < length old)
+module _ (n at e : ℕ) (old ys : List ℕ) (is : e ≡ at + digit_count n) (below : e < length old)
     (same : ys ≡ digits (length (take (e - at) (drop at old))) n) where
   ys-are : ys ≡ decimal n
   ys-are = same ∙ ap (λ (k : ℕ). digits k n) (length_part at (e - at) old (omega arith) ∙ omega arith)
@@ -25,21 +25,21 @@ module _ (n at e : ℕ) (old ys : List ℕ) (is : e ≡ at + digitCount n) (belo
   here : length (take at old ++ ys) ≡ e
   here =
       length-append (take at old) ys
-      ∙ rw (length-take-le at old (omega arith), ys-are, length_digits (digitCount n) n) (sym is)
+      ∙ rw (length-take-le at old (omega arith), ys-are, length_digits (digit_count n) n) (sym is)
 
-  pub still-below : e < length (take at old ++ (ys ++ drop (e - at) (drop at old)))
-  still-below =
+  pub still_below : e < length (take at old ++ (ys ++ drop (e - at) (drop at old)))
+  still_below =
       let a = ap length (append_assoc (take at old) ys (drop (e - at) (drop at old))) in
       let b = length-append (take at old ++ ys) (drop (e - at) (drop at old)) in
       let c = ap length behind-digits in
       omega (arith, a, b, c, here)
 
-  pub line-put : Appended (numberLine n) at old (set (take at old ++ (ys ++ drop (e - at) (drop at old))) e 10) (e + 1)
-  line-put =
+  pub line_put : Appended (number_line n) at old (set (take at old ++ (ys ++ drop (e - at) (drop at old))) e 10) (e + 1)
+  line_put =
       record {
-        behind = omega (arith, length-line n);
+        behind = omega (arith, length_line n);
         bytes =
-            let l : e + 1 ≡ at + length (numberLine n) = omega (arith, length-line n) in
+            let l : e + 1 ≡ at + length (number_line n) = omega (arith, length_line n) in
             ap (λ (zs : List ℕ). set zs e 10)
             (ap (λ (zs : List ℕ). take at old ++ (ys ++ zs)) behind-digits
             ∙ sym (append_assoc (take at old) ys (get_or old e 0 ∷ drop (e + 1) old)))

@@ -10,29 +10,29 @@ use lib.Dec.{ltb}
 use lib.ListN.{length, set, drop, length-append, length-set}
 use lib.Seq.{drop-cons, drop-length, drop-set-lt, get_or-set_same}
 use Rattle.numbers.proofs.Test.{cond_both}
-use Rattle.pgm.specs.Write.{digits, digitCount, decimal, numberLine, headerLines}
+use Rattle.pgm.specs.Write.{digits, digit_count, decimal, number_line, header_lines}
 
 -- ---- how many
 
 module _ (n : ℕ) where
-  pub count-1 : n < 10 → 1 ≡ digitCount n
-  unfolding digitCount
-  count-1 h = rw (lt-ltb n 10 h) refl
+  pub count_1 : n < 10 → 1 ≡ digit_count n
+  unfolding digit_count
+  count_1 h = rw (lt-ltb n 10 h) refl
 
-  pub count-2 : 10 ≤ n → n < 100 → 2 ≡ digitCount n
-  unfolding digitCount
-  count-2 h k = rw (le-ltb n 10 h, lt-ltb n 100 k) refl
+  pub count_2 : 10 ≤ n → n < 100 → 2 ≡ digit_count n
+  unfolding digit_count
+  count_2 h k = rw (le-ltb n 10 h, lt-ltb n 100 k) refl
 
-  pub count-3 : 100 ≤ n → n < 1000 → 3 ≡ digitCount n
-  unfolding digitCount
-  count-3 h k = rw (le-ltb n 10 (omega arith), le-ltb n 100 h, lt-ltb n 1000 k) refl
+  pub count_3 : 100 ≤ n → n < 1000 → 3 ≡ digit_count n
+  unfolding digit_count
+  count_3 h k = rw (le-ltb n 10 (omega arith), le-ltb n 100 h, lt-ltb n 1000 k) refl
 
-  pub count-4 : 1000 ≤ n → 4 ≡ digitCount n
-  unfolding digitCount
-  count-4 h = rw (le-ltb n 10 (omega arith), le-ltb n 100 (omega arith), le-ltb n 1000 h) refl
+  pub count_4 : 1000 ≤ n → 4 ≡ digit_count n
+  unfolding digit_count
+  count_4 h = rw (le-ltb n 10 (omega arith), le-ltb n 100 (omega arith), le-ltb n 1000 h) refl
 
-pub count_most : (n : ℕ) → digitCount n ≤ 4
-unfolding digitCount
+pub count_most : (n : ℕ) → digit_count n ≤ 4
+unfolding digit_count
 count_most n =
     cond_both (λ (k : ℕ). k ≤ 4) (ltb n 10) 1 _ (omega arith)
     (cond_both (λ (k : ℕ). k ≤ 4) (ltb n 100) 2 _ (omega arith)
@@ -45,29 +45,29 @@ length_digits (suc k) n =
     length-append (digits k (n / 10)) ((48 + n % 10) ∷ []) ∙ ap (λ (m : ℕ). m + 1) (length_digits k (n / 10))
     ∙ add-one k
 
-pub length-line : (n : ℕ) → length (numberLine n) ≡ digitCount n + 1
-length-line n =
-    length-append (decimal n) (10 ∷ []) ∙ ap (λ (m : ℕ). m + 1) (length_digits (digitCount n) n)
+pub length_line : (n : ℕ) → length (number_line n) ≡ digit_count n + 1
+length_line n =
+    length-append (decimal n) (10 ∷ []) ∙ ap (λ (m : ℕ). m + 1) (length_digits (digit_count n) n)
 
-pub line-255 : numberLine 255 ≡ 50 ∷ 53 ∷ 53 ∷ 10 ∷ []
-unfolding digits digitCount
-line-255 = refl
+pub line_255 : number_line 255 ≡ 50 ∷ 53 ∷ 53 ∷ 10 ∷ []
+unfolding digits digit_count
+line_255 = refl
 
-pub length-header : (w h : ℕ) → length (headerLines w h) ≡ 9 + digitCount w + digitCount h
-length-header w h =
-    let a = length-append (80 ∷ 53 ∷ 10 ∷ [] ++ numberLine w ++ numberLine h) (numberLine 255) in
-    let b = length-append (80 ∷ 53 ∷ 10 ∷ [] ++ numberLine w) (numberLine h) in
-    let c = length-append (80 ∷ 53 ∷ 10 ∷ []) (numberLine w) in
-    omega (arith, a, b, c, length-line w, length-line h, ap length line-255)
+pub length_header : (w h : ℕ) → length (header_lines w h) ≡ 9 + digit_count w + digit_count h
+length_header w h =
+    let a = length-append (80 ∷ 53 ∷ 10 ∷ [] ++ number_line w ++ number_line h) (number_line 255) in
+    let b = length-append (80 ∷ 53 ∷ 10 ∷ [] ++ number_line w) (number_line h) in
+    let c = length-append (80 ∷ 53 ∷ 10 ∷ []) (number_line w) in
+    omega (arith, a, b, c, length_line w, length_line h, ap length line_255)
 
 -- ---- one by one, from the last
 
-pub digit-small : (n : ℕ) → n % 10 < 10
-digit-small n = mod-lt n (omega arith)
+pub digit_small : (n : ℕ) → n % 10 < 10
+digit_small n = mod-lt n (omega arith)
 
 -- nothing written yet
-pub digits-none : (out : List ℕ) (n : ℕ) → digits (length out) n ++ drop (length out) out ≡ digits (length out) n
-digits-none out n = rw (drop-length out) (append-nil (digits (length out) n))
+pub digits_none : (out : List ℕ) (n : ℕ) → digits (length out) n ++ drop (length out) out ≡ digits (length out) n
+digits_none out n = rw (drop-length out) (append-nil (digits (length out) n))
 
 before : (out : List ℕ) (k v : ℕ) → k < length out → drop k (set out k v) ≡ v ∷ drop (suc k) out
 before out k v h =
@@ -87,6 +87,6 @@ digits_step out at rest some h =
     let e : suc (at - 1) ≡ at = omega arith in
     step out (at - 1) rest (omega arith) ∙ ap (λ (k : ℕ). digits k rest ++ drop k out) e
 
-pub digits-done : (out : List ℕ) (at rest : ℕ) → at ≤ 0 → out ≡ digits at rest ++ drop at out
+pub digits_done : (out : List ℕ) (at rest : ℕ) → at ≤ 0 → out ≡ digits at rest ++ drop at out
 unfolding digits
-digits-done out at rest h = let e : at ≡ 0 = omega arith in rw e refl
+digits_done out at rest h = let e : at ≡ 0 = omega arith in rw e refl

@@ -6,52 +6,52 @@ use native.Mathlib.Omega.{arith}
 use lib.ListN.{get_or}
 use Rattle.image.specs.Call.{Gray8, refuses, gray8}
 use Rattle.image.specs.Picture.{tabulate}
-use Rattle.image.specs.Refusal.{sidesRefusal}
-use Rattle.pgm.specs.Form.{onFrom}
-use Rattle.pgm.specs.Read.{pixelsPart, readDecision}
-use Rattle.pgm.specs.Write.{digits, digitCount, headerLines, pgmBytes, PgmWritten}
+use Rattle.image.specs.Refusal.{sides_refusal}
+use Rattle.pgm.specs.Form.{on_from}
+use Rattle.pgm.specs.Read.{pixels_part, read_decision}
+use Rattle.pgm.specs.Write.{digits, digit_count, header_lines, pgm_bytes, PgmWritten}
 use Rattle.pgm.specs.declared.WriteAnswer.TheVariants.{Refused}
-use Rattle.pgm.proofs.Writing.{refused-kept}
+use Rattle.pgm.proofs.Writing.{refused_kept}
 
 -- `1 255 ` behind bytes that begin a file, and then pixels
 file : List ℕ → List ℕ → List ℕ
 file start pixels = start ++ (49 ∷ 32 ∷ 50 ∷ 53 ∷ 53 ∷ 32 ∷ pixels)
 
 -- `P51 1 255 `: no gap behind `P5`; `P5` VT `1 1 255 `: VT is not white
-no_gap : readDecision (file (80 ∷ 53 ∷ 49 ∷ 32 ∷ []) (7 ∷ [])) ≡ refuses 14
-unfolding file readDecision onFrom sidesRefusal
+no_gap : read_decision (file (80 ∷ 53 ∷ 49 ∷ 32 ∷ []) (7 ∷ [])) ≡ refuses 14
+unfolding file read_decision on_from sides_refusal
 no_gap = refl
 
-no-white : readDecision (file (80 ∷ 53 ∷ 11 ∷ 49 ∷ 32 ∷ []) (7 ∷ [])) ≡ refuses 14
-unfolding file readDecision onFrom sidesRefusal
-no-white = refl
+no_white : read_decision (file (80 ∷ 53 ∷ 11 ∷ 49 ∷ 32 ∷ []) (7 ∷ [])) ≡ refuses 14
+unfolding file read_decision on_from sides_refusal
+no_white = refl
 
 -- `P5 2 1 255 ` with one, two and three bytes behind it
-missing : readDecision (file (80 ∷ 53 ∷ 32 ∷ 50 ∷ 32 ∷ []) (7 ∷ [])) ≡ refuses 16
-unfolding file readDecision onFrom sidesRefusal
+missing : read_decision (file (80 ∷ 53 ∷ 32 ∷ 50 ∷ 32 ∷ []) (7 ∷ [])) ≡ refuses 16
+unfolding file read_decision on_from sides_refusal
 missing = refl
 
-whole : pixelsPart (file (80 ∷ 53 ∷ 32 ∷ 50 ∷ 32 ∷ []) (7 ∷ 8 ∷ [])) ≡ 7 ∷ 8 ∷ []
-unfolding file readDecision onFrom sidesRefusal
+whole : pixels_part (file (80 ∷ 53 ∷ 32 ∷ 50 ∷ 32 ∷ []) (7 ∷ 8 ∷ [])) ≡ 7 ∷ 8 ∷ []
+unfolding file read_decision on_from sides_refusal
 whole = refl
 
-surplus : readDecision (file (80 ∷ 53 ∷ 32 ∷ 50 ∷ 32 ∷ []) (7 ∷ 8 ∷ 9 ∷ [])) ≡ refuses 16
-unfolding file readDecision onFrom sidesRefusal
+surplus : read_decision (file (80 ∷ 53 ∷ 32 ∷ 50 ∷ 32 ∷ []) (7 ∷ 8 ∷ 9 ∷ [])) ≡ refuses 16
+unfolding file read_decision on_from sides_refusal
 surplus = refl
 
 -- `P5`, 1024, 10 and 255, an LF behind each
-four-lines : headerLines 1024 10
+four_lines : header_lines 1024 10
     ≡ 80 ∷ 53 ∷ 10 ∷ 49 ∷ 48 ∷ 50 ∷ 52 ∷ 10 ∷ 49 ∷ 48 ∷ 10 ∷ 50 ∷ 53 ∷ 53 ∷ 10 ∷ []
-unfolding digits digitCount
-four-lines = refl
+unfolding digits digit_count
+four_lines = refl
 
 -- 2 by 2 with stride 3: the bytes between rows and behind the last are left out
-tight : pgmBytes (gray8 (1 ∷ 2 ∷ 99 ∷ 3 ∷ 4 ∷ 99 ∷ []) 2 2 3) ≡ headerLines 2 2 ++ (1 ∷ 2 ∷ 3 ∷ 4 ∷ [])
-unfolding digits digitCount tabulate
+tight : pgm_bytes (gray8 (1 ∷ 2 ∷ 99 ∷ 3 ∷ 4 ∷ 99 ∷ []) 2 2 3) ≡ header_lines 2 2 ++ (1 ∷ 2 ∷ 3 ∷ 4 ∷ [])
+unfolding digits digit_count tabulate
 tight = refl
 
 -- no program that has put a `P` before it gives 5 meets the contract, whatever the picture is: room for one byte
-header-first : (src : Gray8) → PgmWritten src (0 ∷ []) (80 ∷ []) (Refused 5) → ⊥
-header-first src o =
-    let e : ◌≡◌ {A = ℕ} 80 0 = ap (λ (xs : List ℕ). get_or xs 0 0) (refused-kept src o) in
+header_first : (src : Gray8) → PgmWritten src (0 ∷ []) (80 ∷ []) (Refused 5) → ⊥
+header_first src o =
+    let e : ◌≡◌ {A = ℕ} 80 0 = ap (λ (xs : List ℕ). get_or xs 0 0) (refused_kept src o) in
     omega arith

@@ -7,62 +7,62 @@ use mathlib.Core.Path.{◌≡◌, refl, ap, ◌∙◌}
 use lib.ListN.{length, length-append}
 use lib.Seq.{append_snoc}
 use Rattle.image.specs.Call.{accepts}
-use Rattle.pgm.specs.Form.{isEnd, isDigit, Each, Gap, blank, comment, gapBytes, GapFormed, gapsBytes, GapsFormed}
-use Rattle.pgm.specs.Form.{Field, fieldBytes, FieldFormed, fieldValue, Header, Formed}
-use Rattle.pgm.specs.Read.{behindGaps, digitsOf, behindDigits, readField, HeaderRead}
-use Rattle.pgm.specs.Read.{readHeader}
-use Rattle.pgm.proofs.Bytes.{white-no-digit, white-no-hash, digit-no-gap}
-use Rattle.pgm.proofs.Fields.{a-field}
-use Rattle.pgm.proofs.Headers.{header-fields}
+use Rattle.pgm.specs.Form.{is_end, is_digit, Each, Gap, blank, comment, gap_bytes, GapFormed, gaps_bytes, GapsFormed}
+use Rattle.pgm.specs.Form.{Field, field_bytes, FieldFormed, field_value, Header, Formed}
+use Rattle.pgm.specs.Read.{behind_gaps, digits_of, behind_digits, read_field, HeaderRead}
+use Rattle.pgm.specs.Read.{read_header}
+use Rattle.pgm.proofs.Bytes.{white_no_digit, white_no_hash, digit_no_gap}
+use Rattle.pgm.proofs.Fields.{a_field}
+use Rattle.pgm.proofs.Headers.{header_fields}
 
 -- ---- gaps
 
-comment-behind : (text : List ℕ) (end : ℕ) (xs : List ℕ) → Each isEnd false text → isEnd end ≡ true
-    → behindGaps true (text ++ (end ∷ xs)) ≡ behindGaps false xs
-unfolding behindGaps
-comment-behind [] end xs inner e = rw e refl
-comment-behind (b ∷ text) end xs inner e = rw inner.0 (comment-behind text end xs inner.1 e)
+comment_behind : (text : List ℕ) (end : ℕ) (xs : List ℕ) → Each is_end false text → is_end end ≡ true
+    → behind_gaps true (text ++ (end ∷ xs)) ≡ behind_gaps false xs
+unfolding behind_gaps
+comment_behind [] end xs inner e = rw e refl
+comment_behind (b ∷ text) end xs inner e = rw inner.0 (comment_behind text end xs inner.1 e)
 
-gap-behind : (g : Gap) (xs : List ℕ) → GapFormed g → behindGaps false (gapBytes g ++ xs) ≡ behindGaps false xs
-unfolding behindGaps
-gap-behind (blank b) xs e = rw (e, white-no-hash b e) refl
-gap-behind (comment text end) xs formed =
-    ap (behindGaps true) (append_snoc text end xs) ∙ comment-behind text end xs formed.0 formed.1
+gap_behind : (g : Gap) (xs : List ℕ) → GapFormed g → behind_gaps false (gap_bytes g ++ xs) ≡ behind_gaps false xs
+unfolding behind_gaps
+gap_behind (blank b) xs e = rw (e, white_no_hash b e) refl
+gap_behind (comment text end) xs formed =
+    ap (behind_gaps true) (append_snoc text end xs) ∙ comment_behind text end xs formed.0 formed.1
 
-gaps-behind : (gs : List Gap) (xs : List ℕ) → GapsFormed gs
-    → behindGaps false (gapsBytes gs ++ xs) ≡ behindGaps false xs
-gaps-behind [] xs formed = refl
-gaps-behind (g ∷ gs) xs formed =
-    ap (behindGaps false) (append_assoc (gapBytes g) (gapsBytes gs) xs)
-    ∙ gap-behind g (gapsBytes gs ++ xs) formed.0
-    ∙ gaps-behind gs xs formed.1
+gaps_behind : (gs : List Gap) (xs : List ℕ) → GapsFormed gs
+    → behind_gaps false (gaps_bytes gs ++ xs) ≡ behind_gaps false xs
+gaps_behind [] xs formed = refl
+gaps_behind (g ∷ gs) xs formed =
+    ap (behind_gaps false) (append_assoc (gap_bytes g) (gaps_bytes gs) xs)
+    ∙ gap_behind g (gaps_bytes gs ++ xs) formed.0
+    ∙ gaps_behind gs xs formed.1
 
 -- ---- digits
 
 -- the list does not begin with a digit
 abbrev pub NoDigit : List ℕ → Type 0
 NoDigit [] = Unit {0}
-NoDigit (b ∷ bs) = isDigit b ≡ false
+NoDigit (b ∷ bs) = is_digit b ≡ false
 
-digits-found : (ds rest : List ℕ) → Each isDigit true ds → NoDigit rest → digitsOf (ds ++ rest) ≡ ds
-unfolding digitsOf
-digits-found [] [] formed other = refl
-digits-found [] (b ∷ bs) formed other = rw other refl
-digits-found (d ∷ ds) rest formed other = rw formed.0 (ap (◌∷◌ d) (digits-found ds rest formed.1 other))
+digits_found : (ds rest : List ℕ) → Each is_digit true ds → NoDigit rest → digits_of (ds ++ rest) ≡ ds
+unfolding digits_of
+digits_found [] [] formed other = refl
+digits_found [] (b ∷ bs) formed other = rw other refl
+digits_found (d ∷ ds) rest formed other = rw formed.0 (ap (◌∷◌ d) (digits_found ds rest formed.1 other))
 
-digits-behind : (ds rest : List ℕ) → Each isDigit true ds → NoDigit rest → behindDigits (ds ++ rest) ≡ rest
-unfolding behindDigits
-digits-behind [] [] formed other = refl
-digits-behind [] (b ∷ bs) formed other = rw other refl
-digits-behind (d ∷ ds) rest formed other = rw formed.0 (digits-behind ds rest formed.1 other)
+digits_behind : (ds rest : List ℕ) → Each is_digit true ds → NoDigit rest → behind_digits (ds ++ rest) ≡ rest
+unfolding behind_digits
+digits_behind [] [] formed other = refl
+digits_behind [] (b ∷ bs) formed other = rw other refl
+digits_behind (d ∷ ds) rest formed other = rw formed.0 (digits_behind ds rest formed.1 other)
 
-gap-some : (g : Gap) → 1 ≤ length (gapBytes g)
-gap-some (blank b) = omega arith
-gap-some (comment text end) = omega arith
+gap_some : (g : Gap) → 1 ≤ length (gap_bytes g)
+gap_some (blank b) = omega arith
+gap_some (comment text end) = omega arith
 
-pub gap-no-digit : (g : Gap) (xs : List ℕ) → GapFormed g → NoDigit (gapBytes g ++ xs)
-gap-no-digit (blank b) xs e = white-no-digit b e
-gap-no-digit (comment text end) xs formed = refl
+pub gap_no_digit : (g : Gap) (xs : List ℕ) → GapFormed g → NoDigit (gap_bytes g ++ xs)
+gap_no_digit (blank b) xs e = white_no_digit b e
+gap_no_digit (comment text end) xs formed = refl
 
 -- ---- a field
 
@@ -70,47 +70,47 @@ module _ (f : Field) (rest : List ℕ) (formed : FieldFormed f) (other : NoDigit
   abbrev number : List ℕ
   number = f.digit ∷ f.digits
 
-  apart : fieldBytes f ++ rest ≡ gapBytes f.gap ++ (gapsBytes f.gaps ++ (number ++ rest))
+  apart : field_bytes f ++ rest ≡ gap_bytes f.gap ++ (gaps_bytes f.gaps ++ (number ++ rest))
   apart =
-      append_assoc (gapBytes f.gap ++ gapsBytes f.gaps) number rest
-      ∙ append_assoc (gapBytes f.gap) (gapsBytes f.gaps) (number ++ rest)
+      append_assoc (gap_bytes f.gap ++ gaps_bytes f.gaps) number rest
+      ∙ append_assoc (gap_bytes f.gap) (gaps_bytes f.gaps) (number ++ rest)
 
-  behind : behindGaps false (fieldBytes f ++ rest) ≡ number ++ rest
-  unfolding behindGaps
+  behind : behind_gaps false (field_bytes f ++ rest) ≡ number ++ rest
+  unfolding behind_gaps
   behind =
-      ap (behindGaps false) apart
-      ∙ gap-behind f.gap (gapsBytes f.gaps ++ (number ++ rest)) formed.gap
-      ∙ gaps-behind f.gaps (number ++ rest) formed.gaps
-      ∙ rw (digit-no-gap f.digit formed.digit) refl
+      ap (behind_gaps false) apart
+      ∙ gap_behind f.gap (gaps_bytes f.gaps ++ (number ++ rest)) formed.gap
+      ∙ gaps_behind f.gaps (number ++ rest) formed.gaps
+      ∙ rw (digit_no_gap f.digit formed.digit) refl
 
-  found : digitsOf (number ++ rest) ≡ number
-  found = digits-found number rest (formed.digit, formed.digits) other
+  found : digits_of (number ++ rest) ≡ number
+  found = digits_found number rest (formed.digit, formed.digits) other
 
-  pub field-read : readField (fieldBytes f ++ rest) ≡ accepts (record { value = fieldValue f; rest = rest })
-  field-read =
-      a-field (fieldBytes f ++ rest) moved (λ e. let n = ap length (ap digitsOf behind ∙ found) in omega arith)
-      ∙ rw (behind, found, digits-behind number rest (formed.digit, formed.digits) other) refl
+  pub field_read : read_field (field_bytes f ++ rest) ≡ accepts (record { value = field_value f; rest = rest })
+  field_read =
+      a_field (field_bytes f ++ rest) moved (λ e. let n = ap length (ap digits_of behind ∙ found) in omega arith)
+      ∙ rw (behind, found, digits_behind number rest (formed.digit, formed.digits) other) refl
     where
-      moved : length (behindGaps false (fieldBytes f ++ rest)) ≡ length (fieldBytes f ++ rest) → ⊥
+      moved : length (behind_gaps false (field_bytes f ++ rest)) ≡ length (field_bytes f ++ rest) → ⊥
       moved e =
-          let a = ap length apart ∙ length-append (gapBytes f.gap) (gapsBytes f.gaps ++ (number ++ rest)) in
-          let b = length-append (gapsBytes f.gaps) (number ++ rest) in
-          omega (arith, a, b, ap length behind, gap-some f.gap)
+          let a = ap length apart ∙ length-append (gap_bytes f.gap) (gaps_bytes f.gaps ++ (number ++ rest)) in
+          let b = length-append (gaps_bytes f.gaps) (number ++ rest) in
+          omega (arith, a, b, ap length behind, gap_some f.gap)
 
-  pub field-no-digit-before : NoDigit (fieldBytes f ++ rest)
-  field-no-digit-before = rw apart (gap-no-digit f.gap (gapsBytes f.gaps ++ (number ++ rest)) formed.gap)
+  pub field_no_digit_before : NoDigit (field_bytes f ++ rest)
+  field_no_digit_before = rw apart (gap_no_digit f.gap (gaps_bytes f.gaps ++ (number ++ rest)) formed.gap)
 
 -- ---- a header
 
 module _ {file : List ℕ} {h : Header} {pixels : List ℕ} (formed : Formed file h pixels) where
   abbrev w : List ℕ
-  w = fieldBytes h.width
+  w = field_bytes h.width
 
   abbrev v : List ℕ
-  v = fieldBytes h.height
+  v = field_bytes h.height
 
   abbrev m : List ℕ
-  m = fieldBytes h.maximum
+  m = field_bytes h.maximum
 
   abbrev last : List ℕ
   last = h.last ∷ pixels
@@ -122,27 +122,27 @@ module _ {file : List ℕ} {h : Header} {pixels : List ℕ} (formed : Formed fil
       (append_assoc (w ++ v ++ m) (h.last ∷ []) pixels ∙ append_assoc (w ++ v) m last ∙ append_assoc w v (m ++ last))
 
   no-digit-last : NoDigit last
-  no-digit-last = white-no-digit h.last formed.last
+  no-digit-last = white_no_digit h.last formed.last
 
   no-digit-m : NoDigit (m ++ last)
-  no-digit-m = field-no-digit-before h.maximum last formed.maximum no-digit-last
+  no-digit-m = field_no_digit_before h.maximum last formed.maximum no-digit-last
 
   no-digit-v : NoDigit (v ++ (m ++ last))
-  no-digit-v = field-no-digit-before h.height (m ++ last) formed.height no-digit-m
+  no-digit-v = field_no_digit_before h.height (m ++ last) formed.height no-digit-m
 
-  abbrev pub asRead : HeaderRead
-  asRead = record {
-    width = fieldValue h.width;
-    height = fieldValue h.height;
-    maximum = fieldValue h.maximum;
+  abbrev pub as_read : HeaderRead
+  as_read = record {
+    width = field_value h.width;
+    height = field_value h.height;
+    maximum = field_value h.maximum;
     pixels = pixels;
   }
 
-  pub header_read : readHeader file ≡ accepts asRead
+  pub header_read : read_header file ≡ accepts as_read
   header_read =
-      ap readHeader all
-      ∙ header-fields (80 ∷ 53 ∷ (w ++ (v ++ (m ++ last)))) refl
-      (field-read h.width (v ++ (m ++ last)) formed.width no-digit-v)
-      (field-read h.height (m ++ last) formed.height no-digit-m)
-      (field-read h.maximum last formed.maximum no-digit-last)
+      ap read_header all
+      ∙ header_fields (80 ∷ 53 ∷ (w ++ (v ++ (m ++ last)))) refl
+      (field_read h.width (v ++ (m ++ last)) formed.width no-digit-v)
+      (field_read h.height (m ++ last) formed.height no-digit-m)
+      (field_read h.maximum last formed.maximum no-digit-last)
       ∙ rw formed.last refl

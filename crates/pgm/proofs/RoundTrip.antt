@@ -1,5 +1,5 @@
 -- "what it writes is read as the same picture" (document 02, K3): the sides are the source's, and the pixels' part its
--- pixels in order (`written_read`, `written-pixels`). Its numbers have no leading zero (`no-leading-zero`).
+-- pixels in order (`written_read`, `written_pixels`). Its numbers have no leading zero (`no_leading_zero`).
 use Prim.Native.Nat.{ℕ, zero, suc, ◌+◌, ◌-◌, ◌*◌, ◌/◌, ◌%◌, ◌^◌, ◌≤◌, ◌<◌}
 use native.Mathlib.Nat.{div-lt_iff_lt-mul, div-add-mod, mul_comm}
 use native.Mathlib.Omega.{arith}
@@ -10,41 +10,41 @@ use borrow.Author.Tests.{le-leb, ltb-true, ltb-false}
 use lib.Dec.{ltb}
 use lib.ListN.{length, get_or, take}
 use lib.Seq.{append_snoc, drop-append_seam}
-use Rattle.numbers.proofs.Test.{by-test}
+use Rattle.numbers.proofs.Test.{by_test}
 use Rattle.image.specs.Call.{Gray8, Decision, accepts, refuses, room_for}
-use Rattle.image.specs.Picture.{pixel, pixelsOf}
+use Rattle.image.specs.Picture.{pixel, pixels_of}
 use Rattle.image.specs.Refusal.{Laid}
-use Rattle.image.proofs.Call.{unless-accepts}
-use Rattle.image.proofs.Front.{room-accepts, front-is}
+use Rattle.image.proofs.Call.{unless_accepts}
+use Rattle.image.proofs.Front.{room_accepts, front_is}
 use Rattle.image.proofs.Refusal.{laid}
-use Rattle.image.proofs.Tight.{length-pixels}
-use Rattle.pgm.specs.Form.{isDigit, Each, blank, onFrom, value_of, Field, fieldBytes, FieldFormed, fieldValue}
-use Rattle.pgm.specs.Form.{Header, headerBytes, Holds}
-use Rattle.pgm.specs.Read.{readDecision, part_of, pixelsPart}
-use Rattle.pgm.specs.Write.{digits, digitCount, decimal, headerLines, pgmBytes, writeDecision, writeAnswer}
+use Rattle.image.proofs.Tight.{length_pixels}
+use Rattle.pgm.specs.Form.{is_digit, Each, blank, on_from, value_of, Field, field_bytes, FieldFormed, field_value}
+use Rattle.pgm.specs.Form.{Header, header_bytes, Holds}
+use Rattle.pgm.specs.Read.{read_decision, part_of, pixels_part}
+use Rattle.pgm.specs.Write.{digits, digit_count, decimal, header_lines, pgm_bytes, write_decision, write_answer}
 use Rattle.pgm.specs.Write.{PgmWritten}
 use Rattle.pgm.specs.declared.PgmPicture.{PgmPicture}
 use Rattle.pgm.specs.declared.WriteAnswer.TheVariants.{Written}
 use Rattle.pgm.proofs.Accepted.{holds_read}
-use Rattle.pgm.proofs.Digits.{count-1, count-2, count-3, count-4, digit-small, length_digits}
+use Rattle.pgm.proofs.Digits.{count_1, count_2, count_3, count_4, digit_small, length_digits}
 
 -- ---- digits as a number
 
-on-append : (n : ℕ) (xs ys : List ℕ) → onFrom n (xs ++ ys) ≡ onFrom (onFrom n xs) ys
-unfolding onFrom
-on-append n [] ys = refl
-on-append n (x ∷ xs) ys = on-append (10 * n + (x - 48)) xs ys
+on_append : (n : ℕ) (xs ys : List ℕ) → on_from n (xs ++ ys) ≡ on_from (on_from n xs) ys
+unfolding on_from
+on_append n [] ys = refl
+on_append n (x ∷ xs) ys = on_append (10 * n + (x - 48)) xs ys
 
-value-digits : (k n : ℕ) → n < 10 ^ k → value_of (digits k n) ≡ n
-unfolding onFrom digits
-value-digits zero n h = omega arith
-value-digits (suc k) n h =
-    let e = value-digits k (n / 10) ((div-lt_iff_lt-mul (omega arith)).1 (omega (arith, mul_comm 10 (10 ^ k)))) in
-    on-append 0 (digits k (n / 10)) ((48 + n % 10) ∷ []) ∙ omega (arith, e, div-add-mod n 10)
+value_digits : (k n : ℕ) → n < 10 ^ k → value_of (digits k n) ≡ n
+unfolding on_from digits
+value_digits zero n h = omega arith
+value_digits (suc k) n h =
+    let e = value_digits k (n / 10) ((div-lt_iff_lt-mul (omega arith)).1 (omega (arith, mul_comm 10 (10 ^ k)))) in
+    on_append 0 (digits k (n / 10)) ((48 + n % 10) ∷ []) ∙ omega (arith, e, div-add-mod n 10)
 
 -- as many digits as a number below 10,000 has hold it
 record Sized (n k : ℕ) : Type 0 where
-  count : k ≡ digitCount n
+  count : k ≡ digit_count n
   some : 1 ≤ k
   holds : n < 10 ^ k
   first : 0 < n → get_or (digits k n) 0 0 ≡ 48 → ⊥
@@ -52,70 +52,70 @@ record Sized (n k : ℕ) : Type 0 where
 sized : (n : ℕ) → n < 10000 → (k : ℕ) × Sized n k
 unfolding digits
 sized n h =
-    by-test (ltb n 10)
+    by_test (ltb n 10)
     (λ t.
     let a = ltb-true n 10 t in
-    (1, record { count = count-1 n a; some = omega arith; holds = omega arith; first = λ p e. omega arith }))
+    (1, record { count = count_1 n a; some = omega arith; holds = omega arith; first = λ p e. omega arith }))
     (λ t.
     let a = ltb-false n 10 t in
-    by-test (ltb n 100)
+    by_test (ltb n 100)
     (λ u.
     let b = ltb-true n 100 u in
-    (2, record { count = count-2 n a b; some = omega arith; holds = omega arith; first = λ p e. omega arith }))
+    (2, record { count = count_2 n a b; some = omega arith; holds = omega arith; first = λ p e. omega arith }))
     (λ u.
     let b = ltb-false n 100 u in
-    by-test (ltb n 1000)
+    by_test (ltb n 1000)
     (λ v.
     let c = ltb-true n 1000 v in
-    (3, record { count = count-3 n b c; some = omega arith; holds = omega arith; first = λ p e. omega arith }))
+    (3, record { count = count_3 n b c; some = omega arith; holds = omega arith; first = λ p e. omega arith }))
     (λ v.
     let c = ltb-false n 1000 v in
-    (4, record { count = count-4 n c; some = omega arith; holds = omega arith; first = λ p e. omega arith }))))
+    (4, record { count = count_4 n c; some = omega arith; holds = omega arith; first = λ p e. omega arith }))))
 
-value-decimal : (n : ℕ) → n < 10000 → value_of (decimal n) ≡ n
-value-decimal n h =
+value_decimal : (n : ℕ) → n < 10000 → value_of (decimal n) ≡ n
+value_decimal n h =
     let k = sized n h in
-    ap (λ (m : ℕ). value_of (digits m n)) (sym k.1.count) ∙ value-digits k.0 n k.1.holds
+    ap (λ (m : ℕ). value_of (digits m n)) (sym k.1.count) ∙ value_digits k.0 n k.1.holds
 
-pub no-leading-zero : (n : ℕ) → 0 < n → n < 10000 → get_or (decimal n) 0 0 ≡ 48 → ⊥
-no-leading-zero n p h e =
+pub no_leading_zero : (n : ℕ) → 0 < n → n < 10000 → get_or (decimal n) 0 0 ≡ 48 → ⊥
+no_leading_zero n p h e =
     let k = sized n h in
     k.1.first p (ap (λ (m : ℕ). get_or (digits m n) 0 0) k.1.count ∙ e)
 
 -- ---- a number behind an LF is a field
 
-each_append : (xs ys : List ℕ) → Each isDigit true xs → Each isDigit true ys → Each isDigit true (xs ++ ys)
+each_append : (xs ys : List ℕ) → Each is_digit true xs → Each is_digit true ys → Each is_digit true (xs ++ ys)
 each_append [] ys a b = b
 each_append (x ∷ xs) ys a b = (a.0, each_append xs ys a.1 b)
 
-digits-each : (k n : ℕ) → Each isDigit true (digits k n)
+digits_each : (k n : ℕ) → Each is_digit true (digits k n)
 unfolding digits
-digits-each zero n = tt
-digits-each (suc k) n =
-    let d = digit-small n in
-    each_append (digits k (n / 10)) ((48 + n % 10) ∷ []) (digits-each k (n / 10))
+digits_each zero n = tt
+digits_each (suc k) n =
+    let d = digit_small n in
+    each_append (digits k (n / 10)) ((48 + n % 10) ∷ []) (digits_each k (n / 10))
     (rw (le-leb 48 (48 + n % 10) (omega arith), le-leb (48 + n % 10) 57 (omega arith)) (refl, tt))
 
 record Spelled (n : ℕ) : Type 0 where
   field : Field
   formed : FieldFormed field
-  bytes : fieldBytes field ≡ 10 ∷ decimal n
-  value : fieldValue field ≡ n
+  bytes : field_bytes field ≡ 10 ∷ decimal n
+  value : field_value field ≡ n
 
 spelled : (n : ℕ) → n < 10000 → Spelled n
-spelled n h = go (decimal n) refl (digits-each (digitCount n) n)
+spelled n h = go (decimal n) refl (digits_each (digit_count n) n)
   where
-    go : (ds : List ℕ) → decimal n ≡ ds → Each isDigit true ds → Spelled n
+    go : (ds : List ℕ) → decimal n ≡ ds → Each is_digit true ds → Spelled n
     go [] e each =
         let k = sized n h in
-        let l = sym (length_digits (digitCount n) n) ∙ ap length e in
+        let l = sym (length_digits (digit_count n) n) ∙ ap length e in
         absurd (omega (arith, k.1.count, k.1.some))
     go (d ∷ ds) e each =
         record {
           field = record { gap = blank 10; gaps = []; digit = d; digits = ds };
           formed = record { gap = refl; gaps = tt; digit = each.0; digits = each.1 };
           bytes = ap (◌∷◌ 10) (sym e);
-          value = ap value_of (sym e) ∙ value-decimal n h;
+          value = ap value_of (sym e) ∙ value_decimal n h;
         }
 
 -- ---- the header
@@ -130,13 +130,13 @@ regrouped a b c =
 
 module _ (src : Gray8) (l : Laid (length src.bytes) src.width src.height src.stride) where
   abbrev px : List ℕ
-  px = pixelsOf src.width src.height (pixel src.bytes src.stride)
+  px = pixels_of src.width src.height (pixel src.bytes src.stride)
 
   w : Spelled src.width
-  w = spelled src.width (omega (arith, l.width-most))
+  w = spelled src.width (omega (arith, l.width_most))
 
   h : Spelled src.height
-  h = spelled src.height (omega (arith, l.height-most))
+  h = spelled src.height (omega (arith, l.height_most))
 
   m : Spelled 255
   m = spelled 255 (omega arith)
@@ -144,7 +144,7 @@ module _ (src : Gray8) (l : Laid (length src.bytes) src.width src.height src.str
   header : Header
   header = record { width = w.field; height = h.field; maximum = m.field; last = 10 }
 
-  header_is : headerLines src.width src.height ≡ headerBytes header
+  header_is : header_lines src.width src.height ≡ header_bytes header
   unfolding header
   header_is =
       ap (λ (zs : List ℕ). 80 ∷ 53 ∷ 10 ∷ zs) (regrouped (decimal src.width) (decimal src.height) (decimal 255))
@@ -154,12 +154,12 @@ module _ (src : Gray8) (l : Laid (length src.bytes) src.width src.height src.str
   written = record {
     width = src.width;
     height = src.height;
-    start = length (headerLines src.width src.height);
+    start = length (header_lines src.width src.height);
   }
 
-  pub written-holds : Holds (pgmBytes src) written
+  pub written_holds : Holds (pgm_bytes src) written
   unfolding header
-  written-holds =
+  written_holds =
       record {
         header = header;
         pixels = px;
@@ -173,43 +173,43 @@ module _ (src : Gray8) (l : Laid (length src.bytes) src.width src.height src.str
         width = sym w.value;
         height = sym h.value;
         start = ap length header_is;
-        width-least = l.width-pos;
-        width-most = l.width-most;
-        height-least = l.height-pos;
-        height-most = l.height-most;
+        width_least = l.width_pos;
+        width_most = l.width_most;
+        height_least = l.height_pos;
+        height_most = l.height_most;
         maximum = m.value;
-        count = length-pixels src.width src.height (pixel src.bytes src.stride);
+        count = length_pixels src.width src.height (pixel src.bytes src.stride);
       }
 
-  pub written_read : readDecision (pgmBytes src) ≡ accepts written
-  written_read = holds_read (pgmBytes src) written written-holds
+  pub written_read : read_decision (pgm_bytes src) ≡ accepts written
+  written_read = holds_read (pgm_bytes src) written written_holds
 
-  pub written-pixels : pixelsPart (pgmBytes src) ≡ px
-  written-pixels =
-      ap (λ (d : Decision PgmPicture). part_of d (pgmBytes src)) written_read
-      ∙ drop-append_seam (headerLines src.width src.height) px
+  pub written_pixels : pixels_part (pgm_bytes src) ≡ px
+  written_pixels =
+      ap (λ (d : Decision PgmPicture). part_of d (pgm_bytes src)) written_read
+      ∙ drop-append_seam (header_lines src.width src.height) px
 
 -- what a call has written, where it answers a length
-pub call-read : (src : Gray8) {old new : List ℕ} {n : ℕ} → PgmWritten src old new (Written n)
+pub call_read : (src : Gray8) {old new : List ℕ} {n : ℕ} → PgmWritten src old new (Written n)
     → (l : Laid (length src.bytes) src.width src.height src.stride)
-    × ((readDecision (take n new) ≡ accepts (written src l))
-    × (pixelsPart (take n new) ≡ pixelsOf src.width src.height (pixel src.bytes src.stride)))
-call-read src {old} {new} {n} o = go (writeDecision src (length old)) refl
+    × ((read_decision (take n new) ≡ accepts (written src l))
+    × (pixels_part (take n new) ≡ pixels_of src.width src.height (pixel src.bytes src.stride)))
+call_read src {old} {new} {n} o = go (write_decision src (length old)) refl
   where
-    go : (d : Decision (List ℕ)) → writeDecision src (length old) ≡ d
+    go : (d : Decision (List ℕ)) → write_decision src (length old) ≡ d
         → (l : Laid (length src.bytes) src.width src.height src.stride)
-        × ((readDecision (take n new) ≡ accepts (written src l))
-        × (pixelsPart (take n new) ≡ pixelsOf src.width src.height (pixel src.bytes src.stride)))
+        × ((read_decision (take n new) ≡ accepts (written src l))
+        × (pixels_part (take n new) ≡ pixels_of src.width src.height (pixel src.bytes src.stride)))
     go (accepts xs) is =
-        let said = o.answered ∙ ap writeAnswer is in
+        let said = o.answered ∙ ap write_answer is in
         let count : n ≡ length xs = cc in
-        let a = unless-accepts _ (room_for 5 (length old) (pgmBytes src)) xs is in
+        let a = unless_accepts _ (room_for 5 (length old) (pgm_bytes src)) xs is in
         let l = laid a.0 in
-        let all : take n new ≡ pgmBytes src =
-        ap (λ (k : ℕ). take k new) count ∙ front-is xs old (o.written xs is)
-        ∙ sym (room-accepts 5 (length old) (pgmBytes src) a.1) in
-        (l, (ap readDecision all ∙ written_read src l, ap pixelsPart all ∙ written-pixels src l))
+        let all : take n new ≡ pgm_bytes src =
+        ap (λ (k : ℕ). take k new) count ∙ front_is xs old (o.written xs is)
+        ∙ sym (room_accepts 5 (length old) (pgm_bytes src) a.1) in
+        (l, (ap read_decision all ∙ written_read src l, ap pixels_part all ∙ written_pixels src l))
     go (refuses k) is =
-        let said = o.answered ∙ ap writeAnswer is in
+        let said = o.answered ∙ ap write_answer is in
         let z : ◌≡◌ {A = ℕ} 0 1 = cc in
         absurd (omega arith)

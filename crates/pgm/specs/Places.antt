@@ -2,9 +2,9 @@
 -- these.
 use Rattle.std.specs.Prelude.{ℕ, ◌+◌, ◌-◌, ◌≤◌, min, cond, List, [], ◌∷◌, ◌≡◌, length, drop}
 use Rattle.image.specs.Call.{Decision, accepts, refuses, decided}
-use Rattle.image.specs.Refusal.{maxSide}
-use Rattle.pgm.specs.Form.{isWhite, value_of}
-use Rattle.pgm.specs.Read.{digitsOf, behindDigits, Read, HeaderRead, pictureRefusal, readAnswer}
+use Rattle.image.specs.Refusal.{max_side}
+use Rattle.pgm.specs.Form.{is_white, value_of}
+use Rattle.pgm.specs.Read.{digits_of, behind_digits, Read, HeaderRead, picture_refusal, read_answer}
 use Rattle.pgm.specs.declared.PgmAnswer.{PgmAnswer}
 use Rattle.pgm.specs.declared.header.Field.{Field}
 use Rattle.pgm.specs.declared.header.Field.TheVariants as field
@@ -20,11 +20,11 @@ pub record Behind (file : List ℕ) (at : ℕ) (rest : List ℕ) : Type 0 where
 
 -- a number as the code holds it
 unfoldable pub cut : ℕ → ℕ
-cut n = min n (maxSide + 1)
+cut n = min n (max_side + 1)
 
 pub record NumberAt (file xs : List ℕ) (n : Number) : Type 0 where
-  pub value : n.value ≡ cut (value_of (digitsOf xs))
-  pub behind : Behind file n.end (behindDigits xs)
+  pub value : n.value ≡ cut (value_of (digits_of xs))
+  pub behind : Behind file n.end (behind_digits xs)
 
 pub record ReadAt (file : List ℕ) (r : Read) (n : Number) : Type 0 where
   pub value : n.value ≡ cut r.value
@@ -50,16 +50,16 @@ HeaderAt file (refuses number) (answer.Header h) = ⊥
 HeaderAt file (refuses number) answer.Broken = number ≡ 14
 
 -- behind the maximum, whose numbers are w, h and m
-abbrev pub lastAnswer : Number → Number → Number → List ℕ → HeaderAnswer
-lastAnswer w h m [] = answer.Broken
-lastAnswer w h m (b ∷ pixels) =
-    cond (isWhite b)
+abbrev pub last_answer : Number → Number → Number → List ℕ → HeaderAnswer
+last_answer w h m [] = answer.Broken
+last_answer w h m (b ∷ pixels) =
+    cond (is_white b)
     (answer.Header (record { width = w.value; height = h.value; maximum = m.value; start = m.end + 1 }))
     answer.Broken
 
 -- what a header says of a file of so many bytes
-abbrev pub pictureAnswer : Header → ℕ → PgmAnswer
-pictureAnswer h len =
-    readAnswer
-    (decided (pictureRefusal h.width h.height h.maximum (len - h.start))
+abbrev pub picture_answer : Header → ℕ → PgmAnswer
+picture_answer h len =
+    read_answer
+    (decided (picture_refusal h.width h.height h.maximum (len - h.start))
     (record { width = h.width; height = h.height; start = h.start }))

@@ -1,8 +1,8 @@
 -- Document 02, K3: what the writer writes.
 use Rattle.std.specs.Prelude.{ℕ, zero, suc, ◌+◌, ◌/◌, ◌%◌, cond, List, [], ◌∷◌, ◌++◌, ltb, length}
-use Rattle.image.specs.Call.{Gray8, Decision, accepts, refuses, unless, room_for, frontWrites, Outcome}
-use Rattle.image.specs.Picture.{pixel, pixelsOf}
-use Rattle.image.specs.Refusal.{layoutRefusal}
+use Rattle.image.specs.Call.{Gray8, Decision, accepts, refuses, unless, room_for, FrontWrites, Outcome}
+use Rattle.image.specs.Picture.{pixel, pixels_of}
+use Rattle.image.specs.Refusal.{layout_refusal}
 use Rattle.pgm.specs.declared.WriteAnswer.{WriteAnswer}
 use Rattle.pgm.specs.declared.WriteAnswer.TheVariants.{Written, Refused}
 
@@ -14,43 +14,43 @@ digits zero n = []
 digits (suc k) n = digits k (n / 10) ++ ((48 + n % 10) ∷ [])
 
 -- how many a number below 10,000 has: a side has at most four
-unfoldable pub digitCount : ℕ → ℕ
-digitCount n = cond (ltb n 10) 1 (cond (ltb n 100) 2 (cond (ltb n 1000) 3 4))
+unfoldable pub digit_count : ℕ → ℕ
+digit_count n = cond (ltb n 10) 1 (cond (ltb n 100) 2 (cond (ltb n 1000) 3 4))
 
 abbrev pub decimal : ℕ → List ℕ
-decimal n = digits (digitCount n) n
+decimal n = digits (digit_count n) n
 
 -- ---- "one LF behind each of the four header fields and no comment"
 
 -- a number and an LF
-abbrev pub numberLine : ℕ → List ℕ
-numberLine n = decimal n ++ (10 ∷ [])
+abbrev pub number_line : ℕ → List ℕ
+number_line n = decimal n ++ (10 ∷ [])
 
 -- `P5`
-abbrev pub magicLine : List ℕ
-magicLine = 80 ∷ 53 ∷ 10 ∷ []
+abbrev pub magic_line : List ℕ
+magic_line = 80 ∷ 53 ∷ 10 ∷ []
 
-abbrev pub headerLines : ℕ → ℕ → List ℕ
-headerLines width height = magicLine ++ numberLine width ++ numberLine height ++ numberLine 255
+abbrev pub header_lines : ℕ → ℕ → List ℕ
+header_lines width height = magic_line ++ number_line width ++ number_line height ++ number_line 255
 
 -- the header, then the pixels, tight
-abbrev pub pgmBytes : Gray8 → List ℕ
-pgmBytes src =
-    headerLines src.width src.height
-    ++ pixelsOf src.width src.height (pixel src.bytes src.stride)
+abbrev pub pgm_bytes : Gray8 → List ℕ
+pgm_bytes src =
+    header_lines src.width src.height
+    ++ pixels_of src.width src.height (pixel src.bytes src.stride)
 
 -- ---- "The writer gives 5 for an output slice that is too short; otherwise it answers the length written and leaves
 -- the bytes behind that unchanged", after 1 to 4 of its source
 
-abbrev pub writeDecision : Gray8 → ℕ → Decision (List ℕ)
-writeDecision src room =
-    unless (layoutRefusal (length src.bytes) src.width src.height src.stride)
-    (room_for 5 room (pgmBytes src))
+abbrev pub write_decision : Gray8 → ℕ → Decision (List ℕ)
+write_decision src room =
+    unless (layout_refusal (length src.bytes) src.width src.height src.stride)
+    (room_for 5 room (pgm_bytes src))
 
-abbrev pub writeAnswer : Decision (List ℕ) → WriteAnswer
-writeAnswer (accepts xs) = Written (length xs)
-writeAnswer (refuses number) = Refused number
+abbrev pub write_answer : Decision (List ℕ) → WriteAnswer
+write_answer (accepts xs) = Written (length xs)
+write_answer (refuses number) = Refused number
 
 abbrev pub PgmWritten : Gray8 → List ℕ → List ℕ → WriteAnswer → Type 0
 PgmWritten src old new answer =
-    Outcome (writeDecision src (length old)) writeAnswer frontWrites old new (tt {0}) (tt {0}) answer
+    Outcome (write_decision src (length old)) write_answer FrontWrites old new (tt {0}) (tt {0}) answer

@@ -1,8 +1,8 @@
 // Reading a header, byte by byte: its length is all that the time depends on.
 ghost use Rattle.std.specs.Prelude.{◌≡◌, false, ◌≤◌, length, drop};
-ghost use Rattle.pgm.specs.Form.{isEnd, isWhite, isDigit};
-ghost use Rattle.pgm.specs.Read.{skips, comments, behindGaps, isMarked, readField, readHeader};
-ghost use Rattle.pgm.specs.Places.{Behind, NumberAt, FieldAt, HeaderAt, lastAnswer, pictureAnswer};
+ghost use Rattle.pgm.specs.Form.{is_end, is_white, is_digit};
+ghost use Rattle.pgm.specs.Read.{skips, comments, behind_gaps, is_marked, read_field, read_header};
+ghost use Rattle.pgm.specs.Places.{Behind, NumberAt, FieldAt, HeaderAt, last_answer, picture_answer};
 
 use crate::{PgmAnswer, PgmPicture};
 use image::Gray8View;
@@ -40,19 +40,19 @@ pub(crate) enum HeaderAnswer {
 const MOST: usize = Gray8View::MAX_SIDE + 1;
 
 fn is_end(byte: u8) -> bool
-    ensures { result ≡ isEnd byte }
+    ensures { result ≡ is_end byte }
 {
     (byte == b'\n') | (byte == b'\r')
 }
 
 fn is_white(byte: u8) -> bool
-    ensures { result ≡ isWhite byte }
+    ensures { result ≡ is_white byte }
 {
     (byte == b' ') | (byte == b'\t') | (byte == b'\n') | (byte == b'\r')
 }
 
 fn is_digit(byte: u8) -> bool
-    ensures { result ≡ isDigit byte }
+    ensures { result ≡ is_digit byte }
 {
     (b'0' <= byte) & (byte <= b'9')
 }
@@ -74,7 +74,7 @@ fn comments(comment: bool, byte: u8) -> bool
 // The place behind the gaps that begin at a place. A comment without an end goes to the file's end.
 fn skip_gaps(file: &[u8], start: usize) -> usize
     requires { start ≤ length file.now }
-    ensures { Behind file.now result (behindGaps false (drop start file.now)) }
+    ensures { Behind file.now result (behind_gaps false (drop start file.now)) }
 {
     let mut at = start;
     let mut comment = false;
@@ -110,7 +110,7 @@ fn number_at(file: &[u8], start: usize) -> Number
 // A gap or more, and a number.
 fn field_at(file: &[u8], at: usize) -> Field
     requires { at ≤ length file.now }
-    ensures { FieldAt file.now (readField (drop at file.now)) result }
+    ensures { FieldAt file.now (read_field (drop at file.now)) result }
 {
     let start = skip_gaps(file, at);
     if start == at {
@@ -124,7 +124,7 @@ fn field_at(file: &[u8], at: usize) -> Field
 }
 
 fn is_marked(file: &[u8]) -> bool
-    ensures { result ≡ isMarked file.now }
+    ensures { result ≡ is_marked file.now }
 {
     if file.len() < 2 {
         return false;
@@ -135,7 +135,7 @@ fn is_marked(file: &[u8]) -> bool
 // The white byte behind the maximum.
 fn last_at(file: &[u8], width: Number, height: Number, maximum: Number) -> HeaderAnswer
     requires { maximum.end ≤ length file.now }
-    ensures { result ≡ lastAnswer width height maximum (drop maximum.end file.now) }
+    ensures { result ≡ last_answer width height maximum (drop maximum.end file.now) }
 {
     let at = maximum.end;
     if at >= file.len() {
@@ -153,7 +153,7 @@ fn last_at(file: &[u8], width: Number, height: Number, maximum: Number) -> Heade
 }
 
 pub(crate) fn read_header(file: &[u8]) -> HeaderAnswer
-    ensures { HeaderAt file.now (readHeader file.now) result }
+    ensures { HeaderAt file.now (read_header file.now) result }
 {
     if !is_marked(file) {
         return HeaderAnswer::Broken;
@@ -173,7 +173,7 @@ pub(crate) fn read_header(file: &[u8]) -> HeaderAnswer
 // What a header says of a file of len bytes.
 pub(crate) fn picture_of(header: Header, len: usize) -> PgmAnswer
     requires { header.start ≤ len }
-    ensures { result ≡ pictureAnswer header len }
+    ensures { result ≡ picture_answer header len }
 {
     let sides = image::sides_refusal(header.width, header.height);
     if sides != 0 {

@@ -1,7 +1,7 @@
 // Pictures as Netpbm's P5, one a file (document 02, K3).
 ghost use Rattle.std.specs.Prelude.{◌≡◌};
 ghost use Rattle.image.specs.Call.{gray8};
-ghost use Rattle.pgm.specs.Read.{readDecision, readAnswer, pixelsPart};
+ghost use Rattle.pgm.specs.Read.{read_decision, read_answer, pixels_part};
 ghost use Rattle.pgm.specs.Write.{PgmWritten};
 
 use crate::header::{HeaderAnswer, picture_of, read_header};
@@ -34,7 +34,7 @@ pub enum WriteAnswer {
 // The picture in a file. Refusals: 14 for a header that breaks the form; then 1 and 2 for its sides, 15 for a maximum
 // other than 255, 16 for missing or surplus pixel bytes.
 pub fn read(file: &[u8]) -> PgmAnswer
-    ensures { result ≡ readAnswer (readDecision file.now) }
+    ensures { result ≡ read_answer (read_decision file.now) }
 {
     match read_header(file) {
         HeaderAnswer::Header(header) => picture_of(header, file.len()),
@@ -44,7 +44,7 @@ pub fn read(file: &[u8]) -> PgmAnswer
 
 // The part of a file that holds its pixels; the empty part where the file is refused.
 pub fn pixels_of(file: &[u8]) -> &[u8]
-    ensures { result.now ≡ pixelsPart file.now }
+    ensures { result.now ≡ pixels_part file.now }
 {
     match read(file) {
         PgmAnswer::Picture(picture) => {

@@ -1,13 +1,13 @@
 // Writing: the header's four lines, and the pixels behind them.
 ghost use Rattle.std.specs.Prelude.{◌≡◌, ◌++◌, ◌+◌, ◌*◌, ◌≤◌, length, drop};
 ghost use Rattle.image.specs.Call.{Appended};
-ghost use Rattle.image.specs.Picture.{pixel, pixelsOf};
+ghost use Rattle.image.specs.Picture.{pixel, pixels_of};
 ghost use Rattle.image.specs.Refusal.{Laid};
-ghost use Rattle.pgm.specs.Write.{digits, digitCount, numberLine, headerLines};
+ghost use Rattle.pgm.specs.Write.{digits, digit_count, number_line, header_lines};
 
 // How many digits a number below 10,000 has.
 fn digit_count(n: usize) -> usize
-    ensures { result ≡ digitCount n }
+    ensures { result ≡ digit_count n }
 {
     if n < 10 {
         return 1;
@@ -36,8 +36,8 @@ fn put_digits(n: usize, out: &mut [u8])
 
 // A number and an LF, from `at` on; the place behind them.
 fn put_number(n: usize, at: usize, out: &mut [u8]) -> usize
-    requires { at + length (numberLine n) ≤ length out.old }
-    ensures { Appended (numberLine n) at out.old out.new result }
+    requires { at + length (number_line n) ≤ length out.old }
+    ensures { Appended (number_line n) at out.old out.new result }
 {
     let end = at + digit_count(n);
     put_digits(n, &mut out[at..end]);
@@ -47,16 +47,16 @@ fn put_number(n: usize, at: usize, out: &mut [u8]) -> usize
 
 // How many bytes the header has.
 pub(crate) fn header_length(width: usize, height: usize) -> usize
-    ensures { result ≡ length (headerLines width height) }
+    ensures { result ≡ length (header_lines width height) }
 {
     9 + digit_count(width) + digit_count(height)
 }
 
 // The header, at the front of out.
 pub(crate) fn put_header(width: usize, height: usize, out: &mut [u8])
-    requires { length (headerLines width height) ≤ length out.old }
+    requires { length (header_lines width height) ≤ length out.old }
     ensures { out.new
-        ≡ headerLines width height ++ drop (length (headerLines width height)) out.old }
+        ≡ header_lines width height ++ drop (length (header_lines width height)) out.old }
 {
     bytes::copy(b"P5\n", out);
     let second = put_number(width, 3, out);
@@ -68,7 +68,7 @@ pub(crate) fn put_header(width: usize, height: usize, out: &mut [u8])
 pub(crate) fn put_pixels(data: &[u8], width: usize, height: usize, stride: usize, out: &mut [u8])
     requires laid { Laid (length «data».now) width height stride }
     requires out_len { length out.old ≡ width * height }
-    ensures { out.new ≡ pixelsOf width height (pixel «data».now stride) }
+    ensures { out.new ≡ pixels_of width height (pixel «data».now stride) }
 {
     image::kernel::copy_rows(data, width, height, stride, out, width);
 }

@@ -1,67 +1,67 @@
--- Document 02, K7: an angle has a direction exactly where its value in degrees is finite (`found-iff`, `nothing-iff`),
--- which only a finite angle has (`degrees-finite`), and it is the one that it was (`as_before`).
+-- Document 02, K7: an angle has a direction exactly where its value in degrees is finite (`found_iff`, `nothing_iff`),
+-- which only a finite angle has (`degrees_finite`), and it is the one that it was (`as_before`).
 use mathlib.Core.Bool.{Bool, true, false, cond, false≢true}
 use mathlib.Core.Logic.{inr, ⊎_elim, ◌↔◌}
 use mathlib.Core.Path.{◌≡◌, refl, sym, ap, ◌∙◌}
 use lib.Ieee.{Float, nan, inf, fin, of_bits, mul}
 use lib.Ieee.Scale.{finite}
-use Rattle.numbers.proofs.Test.{bool_cases, and-false-right}
-use Rattle.raster.specs.Before.{restBefore, halfTurnBefore, directionBefore}
-use Rattle.raster.specs.Direction.{inDegrees, signed_rest, halfTurn, nearestTo, fromAngle, isFound, NoDirection}
+use Rattle.numbers.proofs.Test.{bool_cases, and_false_right}
+use Rattle.raster.specs.Before.{rest_before, half_turn_before, direction_before}
+use Rattle.raster.specs.Direction.{in_degrees, signed_rest, half_turn, nearest_to, from_angle, is_found, NoDirection}
 use Rattle.raster.specs.declared.direction.RasterDirection4.{RasterDirection4}
 use Rattle.raster.specs.declared.direction.SnappedDirection.TheVariants.{Found, Nothing}
 
-found-same : {d e : RasterDirection4} → Found d ≡ Found e → d ≡ e
-found-same e = cc
+found_same : {d e : RasterDirection4} → Found d ≡ Found e → d ≡ e
+found_same e = cc
 
 -- ---- degrees
 
 -- the product of what is not finite is not finite
-pub degrees-finite : (angle : Float) → finite (inDegrees angle) ≡ true → finite angle ≡ true
-unfolding inDegrees mul of_bits
-degrees-finite nan e = e
-degrees-finite (inf s) e = e
-degrees-finite (fin s m e') e = refl
+pub degrees_finite : (angle : Float) → finite (in_degrees angle) ≡ true → finite angle ≡ true
+unfolding in_degrees mul of_bits
+degrees_finite nan e = e
+degrees_finite (inf s) e = e
+degrees_finite (fin s m e') e = refl
 
 -- ---- the answer, by the degrees alone
 
 module _ (angle : Float) where
-  pub is_found : finite (inDegrees angle) ≡ true → fromAngle angle ≡ Found (nearestTo (inDegrees angle))
-  unfolding fromAngle
-  is_found e = rw (degrees-finite angle e, e)
+  pub is_found : finite (in_degrees angle) ≡ true → from_angle angle ≡ Found (nearest_to (in_degrees angle))
+  unfolding from_angle
+  is_found e = rw (degrees_finite angle e, e)
 
-  pub is-nothing : finite (inDegrees angle) ≡ false → fromAngle angle ≡ Nothing
-  unfolding fromAngle
-  is-nothing e =
-      ap (λ (t : Bool). cond t (Found (nearestTo (inDegrees angle))) Nothing) (and-false-right (finite angle) e)
+  pub is_nothing : finite (in_degrees angle) ≡ false → from_angle angle ≡ Nothing
+  unfolding from_angle
+  is_nothing e =
+      ap (λ (t : Bool). cond t (Found (nearest_to (in_degrees angle))) Nothing) (and_false_right (finite angle) e)
 
   -- "either a direction or that there is none", by the degrees
-  pub by-degrees : isFound (fromAngle angle) ≡ finite (inDegrees angle)
-  by-degrees = ⊎_elim (λ e. ap isFound (is_found e) ∙ sym e) (λ e. ap isFound (is-nothing e) ∙ sym e)
-      (bool_cases (finite (inDegrees angle)))
+  pub by_degrees : is_found (from_angle angle) ≡ finite (in_degrees angle)
+  by_degrees = ⊎_elim (λ e. ap is_found (is_found e) ∙ sym e) (λ e. ap is_found (is_nothing e) ∙ sym e)
+      (bool_cases (finite (in_degrees angle)))
 
-  pub found-iff : (isFound (fromAngle angle) ≡ true) ↔ (finite (inDegrees angle) ≡ true)
-  found-iff = (λ e. sym by-degrees ∙ e, λ e. by-degrees ∙ e)
+  pub found_iff : (is_found (from_angle angle) ≡ true) ↔ (finite (in_degrees angle) ≡ true)
+  found_iff = (λ e. sym by_degrees ∙ e, λ e. by_degrees ∙ e)
 
-  pub found-finite : isFound (fromAngle angle) ≡ true → finite angle ≡ true
-  found-finite e = degrees-finite angle (found-iff.0 e)
+  pub found_finite : is_found (from_angle angle) ≡ true → finite angle ≡ true
+  found_finite e = degrees_finite angle (found_iff.0 e)
 
-  infinite-degrees : finite angle ≡ false → finite (inDegrees angle) ≡ false
-  infinite-degrees z = ⊎_elim (λ e. absurd (false≢true (sym z ∙ degrees-finite angle e))) (λ e. e)
-      (bool_cases (finite (inDegrees angle)))
+  infinite-degrees : finite angle ≡ false → finite (in_degrees angle) ≡ false
+  infinite-degrees z = ⊎_elim (λ e. absurd (false≢true (sym z ∙ degrees_finite angle e))) (λ e. e)
+      (bool_cases (finite (in_degrees angle)))
 
   -- none exactly where "the angle or its value in degrees isn't finite"
-  pub not-found-iff : (isFound (fromAngle angle) ≡ false) ↔ NoDirection angle
-  not-found-iff = (λ e. inr (sym by-degrees ∙ e), λ n. by-degrees ∙ ⊎_elim infinite-degrees (λ z. z) n)
+  pub not_found_iff : (is_found (from_angle angle) ≡ false) ↔ NoDirection angle
+  not_found_iff = (λ e. inr (sym by_degrees ∙ e), λ n. by_degrees ∙ ⊎_elim infinite-degrees (λ z. z) n)
 
-  pub nothing-iff : (fromAngle angle ≡ Nothing) ↔ NoDirection angle
-  nothing-iff = (λ e. not-found-iff.0 (ap isFound e), λ n. is-nothing (sym by-degrees ∙ not-found-iff.1 n))
+  pub nothing_iff : (from_angle angle ≡ Nothing) ↔ NoDirection angle
+  nothing_iff = (λ e. not_found_iff.0 (ap is_found e), λ n. is_nothing (sym by_degrees ∙ not_found_iff.1 n))
 
   -- ---- what it was
 
-  pub as_before : (d : RasterDirection4) → fromAngle angle ≡ Found d → d ≡ directionBefore angle
-  unfolding directionBefore halfTurnBefore restBefore nearestTo halfTurn signed_rest inDegrees
-  as_before d e = found-same (sym e ∙ is_found (found-iff.0 (ap isFound e)))
+  pub as_before : (d : RasterDirection4) → from_angle angle ≡ Found d → d ≡ direction_before angle
+  unfolding direction_before half_turn_before rest_before nearest_to half_turn signed_rest in_degrees
+  as_before d e = found_same (sym e ∙ is_found (found_iff.0 (ap is_found e)))
 
-  pub same-as-before : finite (inDegrees angle) ≡ true → fromAngle angle ≡ Found (directionBefore angle)
-  same-as-before e = is_found e ∙ ap Found (as_before _ (is_found e))
+  pub same_as_before : finite (in_degrees angle) ≡ true → from_angle angle ≡ Found (direction_before angle)
+  same_as_before e = is_found e ∙ ap Found (as_before _ (is_found e))

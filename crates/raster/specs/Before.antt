@@ -7,18 +7,18 @@ use Rattle.raster.specs.declared.direction.RasterDirection4.{RasterDirection4}
 use Rattle.raster.specs.Direction.{nearest}
 
 -- the angle × 57.29577951308232 % 180
-unfoldable pub restBefore : Float → Float
-restBefore angle =
+unfoldable pub rest_before : Float → Float
+rest_before angle =
     rem binary64 (mul binary64 angle (of_bits binary64 0x404c_a5dc_1a63_c1f8)) (of_bits binary64 0x4066_8000_0000_0000)
 
 -- .. plus 180 if negative
-unfoldable pub halfTurnBefore : Float → Float
-unfolding restBefore
-halfTurnBefore angle =
-    cond (lt (restBefore angle) (of_bits binary64 0))
-    (add binary64 (restBefore angle) (of_bits binary64 0x4066_8000_0000_0000))
-    (restBefore angle)
+unfoldable pub half_turn_before : Float → Float
+unfolding rest_before
+half_turn_before angle =
+    cond (lt (rest_before angle) (of_bits binary64 0))
+    (add binary64 (rest_before angle) (of_bits binary64 0x4066_8000_0000_0000))
+    (rest_before angle)
 
-unfoldable pub directionBefore : Float → RasterDirection4
-unfolding halfTurnBefore nearest
-directionBefore angle = nearest (div binary64 (halfTurnBefore angle) (of_bits binary64 0x4046_8000_0000_0000))
+unfoldable pub direction_before : Float → RasterDirection4
+unfolding half_turn_before nearest
+direction_before angle = nearest (div binary64 (half_turn_before angle) (of_bits binary64 0x4046_8000_0000_0000))

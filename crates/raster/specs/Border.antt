@@ -8,28 +8,28 @@ use Rattle.raster.specs.declared.border.BorderSample.TheVariants.{Inside, Outsid
 -- ---- document 01, "The 32-byte record": a border's number and its value
 
 -- 0 Replicate, 1 Reflect, 2 Constant; document 02, K2: Wrap "is value 3 in the record, with border value 0"
-abbrev pub borderCode : LineBorderMode → ℕ
-borderCode Replicate = 0
-borderCode Reflect = 1
-borderCode (Constant v) = 2
-borderCode Wrap = 3
+abbrev pub border_code : LineBorderMode → ℕ
+border_code Replicate = 0
+border_code Reflect = 1
+border_code (Constant v) = 2
+border_code Wrap = 3
 
 -- 0 unless Constant
-abbrev pub borderValue : LineBorderMode → ℕ
-borderValue Replicate = 0
-borderValue Reflect = 0
-borderValue (Constant v) = v
-borderValue Wrap = 0
+abbrev pub border_value : LineBorderMode → ℕ
+border_value Replicate = 0
+border_value Reflect = 0
+border_value (Constant v) = v
+border_value Wrap = 0
 
 -- the border of a number and a value; a number that is no border's stands for Constant
-abbrev pub borderFrom : ℕ → ℕ → LineBorderMode
-borderFrom code value =
+abbrev pub border_from : ℕ → ℕ → LineBorderMode
+border_from code value =
     cond (eqb code 0) Replicate (cond (eqb code 1) Reflect (cond (eqb code 3) Wrap (Constant value)))
 
 -- whether a border has this number and this value
-unfoldable pub isBorder : ℕ → ℕ → Bool
-isBorder code value =
-    eqb (borderCode (borderFrom code value)) code && eqb (borderValue (borderFrom code value)) value
+unfoldable pub is_border : ℕ → ℕ → Bool
+is_border code value =
+    eqb (border_code (border_from code value)) code && eqb (border_value (border_from code value)) value
 
 -- ---- document 01, "Mean along a line": a place is an integer, and the line's own places are 0 to n − 1
 
@@ -56,11 +56,11 @@ constant v n (pos k) = cond (ltb k n) (Inside k) (Outside v)
 constant v n (negsuc k) = Outside v
 
 -- Wrap (document 02, K2) "takes place p mod n on the line"
-unfoldable pub borderMap : LineBorderMode → ℕ → ℤ → BorderSample
-borderMap Replicate n p = Inside (nearer n p)
-borderMap Reflect n p = Inside (reflected n p)
-borderMap (Constant v) n p = constant v n p
-borderMap Wrap n p = Inside (modℤ p n)
+unfoldable pub border_map : LineBorderMode → ℕ → ℤ → BorderSample
+border_map Replicate n p = Inside (nearer n p)
+border_map Reflect n p = Inside (reflected n p)
+border_map (Constant v) n p = constant v n p
+border_map Wrap n p = Inside (modℤ p n)
 
 -- a place of a line of n, or a byte
 abbrev pub Within : ℕ → BorderSample → Type 0

@@ -19,29 +19,29 @@ step_of Vertical = record { dx = pos 0; dy = pos 1 }
 step_of DownLeft = record { dx = negsuc 0; dy = pos 1 }
 
 -- document 01, "The 32-byte record": direction 0 to 3 in the order above
-abbrev pub directionIndex : RasterDirection4 → ℕ
-directionIndex Horizontal = 0
-directionIndex DownRight = 1
-directionIndex Vertical = 2
-directionIndex DownLeft = 3
+abbrev pub direction_index : RasterDirection4 → ℕ
+direction_index Horizontal = 0
+direction_index DownRight = 1
+direction_index Vertical = 2
+direction_index DownLeft = 3
 
-abbrev pub directionFrom : ℕ → RasterDirection4
-directionFrom d = cond (eqb d 0) Horizontal (cond (eqb d 1) DownRight (cond (eqb d 2) Vertical DownLeft))
+abbrev pub direction_from : ℕ → RasterDirection4
+direction_from d = cond (eqb d 0) Horizontal (cond (eqb d 1) DownRight (cond (eqb d 2) Vertical DownLeft))
 
 -- ---- document 01, "Direction from an angle": each operation rounds once
 
 -- deg = angle × 57.29577951308232
-unfoldable pub inDegrees : Float → Float
-inDegrees angle = mul binary64 angle (of_bits binary64 0x404c_a5dc_1a63_c1f8)
+unfoldable pub in_degrees : Float → Float
+in_degrees angle = mul binary64 angle (of_bits binary64 0x404c_a5dc_1a63_c1f8)
 
 -- .. % 180
 unfoldable pub signed_rest : Float → Float
 signed_rest deg = rem binary64 deg (of_bits binary64 0x4066_8000_0000_0000)
 
 -- .. plus 180 if negative
-unfoldable pub halfTurn : Float → Float
+unfoldable pub half_turn : Float → Float
 unfolding signed_rest
-halfTurn deg =
+half_turn deg =
     cond (lt (signed_rest deg) (of_bits binary64 0))
     (add binary64 (signed_rest deg) (of_bits binary64 0x4066_8000_0000_0000))
     (signed_rest deg)
@@ -55,38 +55,38 @@ nearest v =
     (cond (lt v (of_bits binary64 0x400c_0000_0000_0000)) DownLeft Horizontal)))
 
 -- v = deg / 45
-unfoldable pub nearestTo : Float → RasterDirection4
-unfolding halfTurn nearest
-nearestTo deg = nearest (div binary64 (halfTurn deg) (of_bits binary64 0x4046_8000_0000_0000))
+unfoldable pub nearest_to : Float → RasterDirection4
+unfolding half_turn nearest
+nearest_to deg = nearest (div binary64 (half_turn deg) (of_bits binary64 0x4046_8000_0000_0000))
 
 -- document 02, K7: "Snapping an angle now answers either a direction or that there is none, the latter where the angle
 -- or its value in degrees isn't finite."
-unfoldable pub fromAngle : Float → SnappedDirection
-unfolding inDegrees nearestTo
-fromAngle angle = cond (finite angle && finite (inDegrees angle)) (Found (nearestTo (inDegrees angle))) Nothing
+unfoldable pub from_angle : Float → SnappedDirection
+unfolding in_degrees nearest_to
+from_angle angle = cond (finite angle && finite (in_degrees angle)) (Found (nearest_to (in_degrees angle))) Nothing
 
-abbrev pub isFound : SnappedDirection → Bool
-isFound (Found d) = true
-isFound Nothing = false
+abbrev pub is_found : SnappedDirection → Bool
+is_found (Found d) = true
+is_found Nothing = false
 
 -- "the angle or its value in degrees isn't finite"
 abbrev pub NoDirection : Float → Type 0
-NoDirection angle = (finite angle ≡ false) ⊎ (finite (inDegrees angle) ≡ false)
+NoDirection angle = (finite angle ≡ false) ⊎ (finite (in_degrees angle) ≡ false)
 
 -- ".. and give 7 in its usual place"
-abbrev pub angleRefusal : SnappedDirection → ℕ
-angleRefusal s = cond (isFound s) 0 7
+abbrev pub angle_refusal : SnappedDirection → ℕ
+angle_refusal s = cond (is_found s) 0 7
 
 -- the last angle with a direction, and the next double (theorems of proofs/LastAngle.antt)
-unfoldable pub lastAngle : Float
-lastAngle = of_bits binary64 0x7f91_df46_a252_9d38
+unfoldable pub last_angle : Float
+last_angle = of_bits binary64 0x7f91_df46_a252_9d38
 
-unfoldable pub nextAngle : Float
-nextAngle = of_bits binary64 0x7f91_df46_a252_9d39
+unfoldable pub next_angle : Float
+next_angle = of_bits binary64 0x7f91_df46_a252_9d39
 
 -- 0.39, 0.40, −1.0, 3.0; 1e306; the last angle with a direction, and negated
 found :
-    map (λ (bits : ℕ). fromAngle (of_bits binary64 bits))
+    map (λ (bits : ℕ). from_angle (of_bits binary64 bits))
     (0x3fd8_f5c2_8f5c_28f6
     ∷ 0x3fd9_9999_9999_999a
     ∷ 0xbff0_0000_0000_0000
@@ -96,12 +96,12 @@ found :
     ∷ 0xff91_df46_a252_9d38
     ∷ [])
     ≡ map Found (Horizontal ∷ DownRight ∷ DownLeft ∷ Horizontal ∷ Vertical ∷ DownRight ∷ DownLeft ∷ [])
-unfolding fromAngle of_bits mul rem lt add div
+unfolding from_angle of_bits mul rem lt add div
 found = refl
 
 -- the next one, and negated; 1e307; the largest double; the infinities; not a number
 not_found :
-    map (λ (bits : ℕ). fromAngle (of_bits binary64 bits))
+    map (λ (bits : ℕ). from_angle (of_bits binary64 bits))
     (0x7f91_df46_a252_9d39
     ∷ 0xff91_df46_a252_9d39
     ∷ 0x7fac_7b1f_3cac_7433
@@ -111,19 +111,19 @@ not_found :
     ∷ 0x7ff8_0000_0000_0000
     ∷ [])
     ≡ replicate 7 Nothing
-unfolding fromAngle of_bits mul rem lt add div
+unfolding from_angle of_bits mul rem lt add div
 not_found = refl
 
 -- ---- document 01, "Whole job and exact run": an angle that snaps to the direction, 0, 0.75, 1.5 or 2.25
 
-abbrev pub angleOf : RasterDirection4 → Float
-angleOf Horizontal = of_bits binary64 0
-angleOf DownRight = of_bits binary64 0x3fe8_0000_0000_0000
-angleOf Vertical = of_bits binary64 0x3ff8_0000_0000_0000
-angleOf DownLeft = of_bits binary64 0x4002_0000_0000_0000
+abbrev pub angle_of : RasterDirection4 → Float
+angle_of Horizontal = of_bits binary64 0
+angle_of DownRight = of_bits binary64 0x3fe8_0000_0000_0000
+angle_of Vertical = of_bits binary64 0x3ff8_0000_0000_0000
+angle_of DownLeft = of_bits binary64 0x4002_0000_0000_0000
 
-pub snaps : (d : RasterDirection4) → fromAngle (angleOf d) ≡ Found d
-unfolding fromAngle of_bits mul rem lt add div
+pub snaps : (d : RasterDirection4) → from_angle (angle_of d) ≡ Found d
+unfolding from_angle of_bits mul rem lt add div
 snaps Horizontal = refl
 snaps DownRight = refl
 snaps Vertical = refl

@@ -1,9 +1,9 @@
 // The border map: where the sample at a place before, on or behind a line comes from.
 ghost use Rattle.std.specs.Prelude.{cond, ◌≡◌, ◌*◌, ◌-◌, ◌%◌, ◌≤◌, ◌<◌, max};
 ghost use Rattle.std.proofs.Math.IntN.{sub_ℕ};
-ghost use Rattle.image.specs.Refusal.{maxSide};
-ghost use Rattle.raster.specs.Border.{borderCode, borderValue, borderFrom, isBorder};
-ghost use Rattle.raster.specs.Border.{borderMap, constant, modℤ, nearer, reflected};
+ghost use Rattle.image.specs.Refusal.{max_side};
+ghost use Rattle.raster.specs.Border.{border_code, border_value, border_from, is_border};
+ghost use Rattle.raster.specs.Border.{border_map, constant, modℤ, nearer, reflected};
 
 // What stands outside a line.
 #[derive(Drop)]
@@ -21,7 +21,7 @@ pub enum LineBorderMode {
 impl LineBorderMode {
     // The border's number in a record.
     pub fn code(self) -> u8
-        ensures { result ≡ borderCode self }
+        ensures { result ≡ border_code self }
     {
         match self {
             LineBorderMode::Replicate => 0,
@@ -33,7 +33,7 @@ impl LineBorderMode {
 
     // A constant border's value; 0 for the others.
     pub fn value(self) -> u8
-        ensures { result ≡ borderValue self }
+        ensures { result ≡ border_value self }
     {
         match self {
             LineBorderMode::Replicate => 0,
@@ -45,7 +45,7 @@ impl LineBorderMode {
 
     // The border of a number and a value. A number that is no border's stands for Constant.
     pub fn from_code(code: u8, value: u8) -> Self
-        ensures { result ≡ borderFrom code value }
+        ensures { result ≡ border_from code value }
     {
         match code {
             0 => LineBorderMode::Replicate,
@@ -57,7 +57,7 @@ impl LineBorderMode {
 
     // Whether a border has this number and this value.
     pub fn is_code(code: u8, value: u8) -> bool
-        ensures { result ≡ isBorder code value }
+        ensures { result ≡ is_border code value }
     {
         let border = LineBorderMode::from_code(code, value);
         (border.code() == code) & (border.value() == value)
@@ -109,7 +109,7 @@ fn rem_euclid(u: usize, half: usize, modulus: usize) -> usize
 
 // After how many places a reflected line comes again.
 pub fn reflected_period(length: usize) -> usize
-    requires { (1 ≤ length) × (length ≤ maxSide) }
+    requires { (1 ≤ length) × (length ≤ max_side) }
     ensures { result ≡ max 1 (2 * length - 2) }
 {
     if length == 1 {
@@ -121,7 +121,7 @@ pub fn reflected_period(length: usize) -> usize
 // After how many places a line comes again, reflected or, for the second time, wrapped: so the line and the places
 // about it lie in one period of either border.
 fn long_period(length: usize, wraps: bool) -> usize
-    requires { (1 ≤ length) × (length ≤ maxSide) }
+    requires { (1 ≤ length) × (length ≤ max_side) }
     ensures { result ≡ cond wraps (2 * length) (max 1 (2 * length - 2)) }
 {
     if wraps {
@@ -132,7 +132,7 @@ fn long_period(length: usize, wraps: bool) -> usize
 
 // The place u - half of the line that comes again behind its ends, wrapped or reflected.
 fn periodic_place(u: usize, half: usize, length: usize, wraps: bool) -> usize
-    requires { (1 ≤ length) × (length ≤ maxSide) }
+    requires { (1 ≤ length) × (length ≤ max_side) }
     ensures { result ≡ cond wraps (modℤ (sub_ℕ u half) length) (reflected length (sub_ℕ u half)) }
 {
     let period = long_period(length, wraps);
@@ -161,8 +161,8 @@ fn constant_sample(u: usize, half: usize, length: usize, value: u8) -> BorderSam
 
 // Where the sample at the place u - half of a line comes from.
 pub fn border_index(u: usize, half: usize, length: usize, border: LineBorderMode) -> BorderSample
-    requires { (0 < length) × (length ≤ maxSide) }
-    ensures { result ≡ borderMap border length (sub_ℕ u half) }
+    requires { (0 < length) × (length ≤ max_side) }
+    ensures { result ≡ border_map border length (sub_ℕ u half) }
 {
     match border {
         LineBorderMode::Replicate => BorderSample::Inside(nearer_end(u, half, length)),

@@ -1,7 +1,7 @@
 // The four directions of a line, and the one nearest to an angle.
 ghost use Rattle.std.specs.Prelude.{◌≡◌};
-ghost use Rattle.raster.specs.Direction.{step_of, directionIndex, directionFrom, halfTurn, nearest, nearestTo};
-ghost use Rattle.raster.specs.Direction.{fromAngle, isFound};
+ghost use Rattle.raster.specs.Direction.{step_of, direction_index, direction_from, half_turn, nearest, nearest_to};
+ghost use Rattle.raster.specs.Direction.{from_angle, is_found};
 
 #[derive(Drop)]
 pub enum RasterDirection4 {
@@ -27,7 +27,7 @@ pub enum SnappedDirection {
 
 // Degrees, taken modulo a half turn.
 fn half_turn(degrees: f64) -> f64
-    ensures { result ≡ halfTurn degrees }
+    ensures { result ≡ half_turn degrees }
 {
     let rest = degrees % 180.0;
     if rest < 0.0 {
@@ -57,14 +57,14 @@ fn nearest_direction(v: f64) -> RasterDirection4
 
 // The direction nearest to finite degrees.
 fn nearest_to(degrees: f64) -> RasterDirection4
-    ensures { result ≡ nearestTo degrees }
+    ensures { result ≡ nearest_to degrees }
 {
     nearest_direction(half_turn(degrees) / 45.0)
 }
 
 impl SnappedDirection {
     pub fn is_found(self) -> bool
-        ensures { result ≡ isFound self }
+        ensures { result ≡ is_found self }
     {
         if let SnappedDirection::Found(_) = self {
             true
@@ -88,7 +88,7 @@ impl RasterDirection4 {
 
     // The direction's number in a record.
     pub fn index(self) -> u8
-        ensures { result ≡ directionIndex self }
+        ensures { result ≡ direction_index self }
     {
         match self {
             RasterDirection4::Horizontal => 0,
@@ -100,7 +100,7 @@ impl RasterDirection4 {
 
     // The direction of a number of a record, 0 to 3.
     pub fn from_index(index: u8) -> Self
-        ensures { result ≡ directionFrom index }
+        ensures { result ≡ direction_from index }
     {
         match index {
             0 => RasterDirection4::Horizontal,
@@ -112,7 +112,7 @@ impl RasterDirection4 {
 
     // Degrees are finite only where the angle is.
     pub fn from_angle(theta_radians: f64) -> SnappedDirection
-        ensures { result ≡ fromAngle theta_radians }
+        ensures { result ≡ from_angle theta_radians }
     {
         let degrees = theta_radians * 57.29577951308232;
         if floats::is_finite(degrees) {

@@ -1,6 +1,6 @@
 // The lines of a direction: how many, where each starts, how long it is, and how far apart its places are.
 ghost use Rattle.std.specs.Prelude.{◌≡◌, ◌≤◌, ◌<◌, ◌^◌};
-ghost use Rattle.raster.specs.Lines.{Sides, lineCount, startCol, startRow, lengthFrom, scanLineAt, placeStep};
+ghost use Rattle.raster.specs.Lines.{Sides, line_count, start_col, start_row, length_from, scan_line_at, place_step};
 
 use crate::direction::RasterDirection4;
 use numbers::min_usize;
@@ -15,7 +15,7 @@ pub struct ScanLine {
 
 pub fn line_count(direction: RasterDirection4, width: usize, height: usize) -> usize
     requires { Sides width height }
-    ensures { result ≡ lineCount direction width height }
+    ensures { result ≡ line_count direction width height }
 {
     match direction {
         RasterDirection4::Horizontal => height,
@@ -27,7 +27,7 @@ pub fn line_count(direction: RasterDirection4, width: usize, height: usize) -> u
 
 fn start_col(direction: RasterDirection4, width: usize, k: usize) -> usize
     requires { 1 ≤ width }
-    ensures { result ≡ startCol direction width k }
+    ensures { result ≡ start_col direction width k }
 {
     match direction {
         RasterDirection4::Horizontal => 0,
@@ -39,7 +39,7 @@ fn start_col(direction: RasterDirection4, width: usize, k: usize) -> usize
 
 fn start_row(direction: RasterDirection4, width: usize, k: usize) -> usize
     requires { 1 ≤ width }
-    ensures { result ≡ startRow direction width k }
+    ensures { result ≡ start_row direction width k }
 {
     match direction {
         RasterDirection4::Horizontal => k,
@@ -57,7 +57,7 @@ fn length_from(
     row: usize,
 ) -> usize
     requires { (col < width) × (row < height) }
-    ensures { result ≡ lengthFrom direction width height col row }
+    ensures { result ≡ length_from direction width height col row }
 {
     match direction {
         RasterDirection4::Horizontal => width - col,
@@ -69,8 +69,8 @@ fn length_from(
 
 // Line k of the direction.
 pub fn line_at(direction: RasterDirection4, width: usize, height: usize, k: usize) -> ScanLine
-    requires { Sides width height × (k < lineCount direction width height) }
-    ensures { result ≡ scanLineAt direction width height k }
+    requires { Sides width height × (k < line_count direction width height) }
+    ensures { result ≡ scan_line_at direction width height k }
 {
     let col = start_col(direction, width, k);
     let row = start_row(direction, width, k);
@@ -84,7 +84,7 @@ pub fn line_at(direction: RasterDirection4, width: usize, height: usize, k: usiz
 // How many bytes on the next place of a line is, in a picture of this stride.
 pub fn place_step(direction: RasterDirection4, stride: usize) -> usize
     requires { (1 ≤ stride) × (stride < 2 ^ 63) }
-    ensures { result ≡ placeStep direction stride }
+    ensures { result ≡ place_step direction stride }
 {
     match direction {
         RasterDirection4::Horizontal => 1,

@@ -1,4 +1,4 @@
--- Bytes and fields determine each other: `decoded-encoded` of fields that are within their bytes, `encoded-decoded` of
+-- Bytes and fields determine each other: `decoded_encoded` of fields that are within their bytes, `encoded_decoded` of
 -- 32 bytes.
 use mathlib.Core.Path.{◌≡◌, sym}
 use mathlib.Core.List.{List, [], ◌∷◌, ◌++◌}
@@ -12,7 +12,7 @@ use Rattle.numbers.proofs.List.{length_part, each_part}
 use Rattle.record.specs.Bytes.{number_at, bytes_of}
 use Rattle.record.specs.Fields.{decoded, encoded}
 use Rattle.record.specs.declared.fields.Fields.{Fields}
-use Rattle.record.proofs.LittleEndian.{Bytes, number_lt, number-bytes, bytes-number}
+use Rattle.record.proofs.LittleEndian.{Bytes, number_lt, number_bytes, bytes_number}
 
 -- the fields of more than a byte are within their bytes
 pub record InBytes (f : Fields) : Type 0 where
@@ -24,17 +24,17 @@ pub record InBytes (f : Fields) : Type 0 where
   pub angle : f.angle < 256 ^ 8
   pub estimate : f.estimate < 256 ^ 8
 
-pub decoded-encoded : (f : Fields) → InBytes f → decoded (encoded f) ≡ f
+pub decoded_encoded : (f : Fields) → InBytes f → decoded (encoded f) ≡ f
 unfolding decoded encoded bytes_of
-decoded-encoded f b =
+decoded_encoded f b =
     rw (
-      number-bytes 2 f.head.width b.width,
-      number-bytes 2 f.head.height b.height,
-      number-bytes 2 f.blur_length b.blur_length,
-      number-bytes 2 f.iterations b.iterations,
-      number-bytes 4 f.q b.q,
-      number-bytes 8 f.angle b.angle,
-      number-bytes 8 f.estimate b.estimate,
+      number_bytes 2 f.head.width b.width,
+      number_bytes 2 f.head.height b.height,
+      number_bytes 2 f.blur_length b.blur_length,
+      number_bytes 2 f.iterations b.iterations,
+      number_bytes 4 f.q b.q,
+      number_bytes 8 f.angle b.angle,
+      number_bytes 8 f.estimate b.estimate,
     )
 
 module _ (xs : List ℕ) (l : length xs ≡ 32) (bytes : Bytes xs) where
@@ -50,11 +50,11 @@ module _ (xs : List ℕ) (l : length xs ≡ 32) (bytes : Bytes xs) where
 
   -- n bytes from a on are those of their number
   number-part : (a n : ℕ) → a + n ≤ 32 → bytes_of n (number_at xs a n) ≡ take n (drop a xs)
-  number-part a n h = rw (length_part a n xs (room h)) at (bytes-number (take n (drop a xs)) (part_bytes a n h))
+  number-part a n h = rw (length_part a n xs (room h)) at (bytes_number (take n (drop a xs)) (part_bytes a n h))
 
-  pub decoded-in-bytes : InBytes (decoded xs)
+  pub decoded_in_bytes : InBytes (decoded xs)
   unfolding decoded
-  decoded-in-bytes = record {
+  decoded_in_bytes = record {
     width = number-within 0 2 (lit≤ tt);
     height = number-within 2 2 (lit≤ tt);
     blur_length = number-within 8 2 (lit≤ tt);
@@ -77,9 +77,9 @@ module _ (xs : List ℕ) (l : length xs ≡ 32) (bytes : Bytes xs) where
         drop-cons xs 7 0 (room (lit≤ tt)),
       )
 
-  pub encoded-decoded : encoded (decoded xs) ≡ xs
+  pub encoded_decoded : encoded (decoded xs) ≡ xs
   unfolding decoded encoded
-  encoded-decoded =
+  encoded_decoded =
       rw (
         number-part 0 2 (lit≤ tt),
         number-part 2 2 (lit≤ tt),

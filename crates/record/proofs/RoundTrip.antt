@@ -1,6 +1,6 @@
--- Record and fields determine each other: fields and record (`fields-record`, `record-fields`), and so what is written
--- reads as the same record (`read-written`), what reads is written as the same bytes (`write_read`), and bytes that
--- read as one record are the same (`read-unique`).
+-- Record and fields determine each other: fields and record (`fields_record`, `record_fields_lem`), and so what is written
+-- reads as the same record (`read_written`), what reads is written as the same bytes (`write_read`), and bytes that
+-- read as one record are the same (`read_unique`).
 use mathlib.Core.Path.{◌≡◌, refl, sym, ap, ◌∙◌, subst}
 use mathlib.Core.Bool.{true, false}
 use mathlib.Core.List.{List}
@@ -11,16 +11,16 @@ use lib.Dec.{T, eqb, lit≤}
 use lib.ListN.{length}
 use lib.Ieee.{Float, binary64, to_bits, fits}
 use lib.Ieee.Bits.{of_bits-to_bits, to_bits-lt}
-use Rattle.numbers.proofs.Test.{by-test}
-use Rattle.floats.specs.Factor.{scale, quantized, factorOf}
+use Rattle.numbers.proofs.Test.{by_test}
+use Rattle.floats.specs.Factor.{scale, quantized, factor_of}
 use Rattle.floats.specs.declared.Quantized.{Quantized}
 use Rattle.floats.specs.declared.Quantized.TheVariants.{Q16, Refused}
-use Rattle.floats.proofs.Factor.{quantized-factor}
-use Rattle.raster.proofs.Codes.{from-border, border-from, from-index, index-from}
+use Rattle.floats.proofs.Factor.{quantized_factor}
+use Rattle.raster.proofs.Codes.{from_border, border_from_lem, from_index, index_from}
 use Rattle.record.specs.Fields.{decoded, encoded, legal}
-use Rattle.record.specs.Record.{filterFrom, recordOf, filterCode, isFactor, exactQ, filterQ, fields_of, checked}
-use Rattle.record.specs.Record.{withQ}
-use Rattle.record.specs.Record.{recordFields, readAs, readFields, readRecord, toWrite, writeNumber, writeBytes}
+use Rattle.record.specs.Record.{filter_from, record_of, filter_code, is_factor, exact_q, filter_q, fields_of, checked}
+use Rattle.record.specs.Record.{with_q}
+use Rattle.record.specs.Record.{record_fields, read_as, read_fields, read_record, to_write, write_number, write_bytes}
 use Rattle.record.specs.Record.{Wrote}
 use Rattle.record.specs.declared.fields.Fields.{Fields}
 use Rattle.record.specs.declared.FieldsAnswer.{FieldsAnswer}
@@ -31,71 +31,71 @@ use Rattle.record.specs.declared.RecordFilter.{RecordFilter}
 use Rattle.record.specs.declared.RecordFilter.TheVariants.{WholeJob, Restoration, Unsharp, Binomial}
 use Rattle.record.specs.declared.Record.{Record}
 use Rattle.record.specs.declared.ReadAnswer.TheVariants as answer
-use Rattle.record.proofs.Answer.{checked-legal, fields-legal, read_whole, encoded-length}
-use Rattle.record.proofs.Legal.{FilterSound, sound, Named, whole-job, restoration, unsharp, binomial, named}
-use Rattle.record.proofs.Legal.{filter-named, angle-finite}
-use Rattle.record.proofs.Doubles.{bits_back, factor-finite, factor-same}
+use Rattle.record.proofs.Answer.{checked_legal, fields_legal, read_whole, encoded_length}
+use Rattle.record.proofs.Legal.{FilterSound, sound, Named, whole_job, restoration, unsharp, binomial, named}
+use Rattle.record.proofs.Legal.{filter_named, angle_finite}
+use Rattle.record.proofs.Doubles.{bits_back, factor_finite, factor_same}
 use Rattle.record.proofs.LittleEndian.{Bytes}
-use Rattle.record.proofs.Coding.{InBytes, decoded-encoded, decoded-in-bytes, encoded-decoded}
+use Rattle.record.proofs.Coding.{InBytes, decoded_encoded, decoded_in_bytes, encoded_decoded}
 
 -- ---- fields and record
 
 -- q and the factor q / 65,536 determine each other
-pub factor-exact : (limit q : ℕ) → limit ≤ 255 → q ≤ limit * scale
-    → exactQ (quantized limit (factorOf q)) (factorOf q) ≡ Q16 q
-unfolding isFactor
-factor-exact limit q l h =
-    let bits = to_bits binary64 (factorOf q) in
-    rw (quantized-factor limit q l h, factor-finite q (omega arith), eq-eqb bits bits refl)
+pub factor_exact : (limit q : ℕ) → limit ≤ 255 → q ≤ limit * scale
+    → exact_q (quantized limit (factor_of q)) (factor_of q) ≡ Q16 q
+unfolding is_factor
+factor_exact limit q l h =
+    let bits = to_bits binary64 (factor_of q) in
+    rw (quantized_factor limit q l h, factor_finite q (omega arith), eq-eqb bits bits refl)
 
-never-exact : (q : ℕ) → Refused ≡ Q16 q → ⊥
-never-exact q e = let z : ◌≡◌ {A = ℕ} 0 1 = cc in omega arith
+never_exact : (q : ℕ) → Refused ≡ Q16 q → ⊥
+never_exact q e = let z : ◌≡◌ {A = ℕ} 0 1 = cc in omega arith
 
-pub exact-factor : (z : Quantized) (q : ℕ) (x : Float) → T (fits binary64 x) → exactQ z x ≡ Q16 q → factorOf q ≡ x
-exact-factor Refused q x t e = absurd (never-exact q e)
-exact-factor (Q16 p) q x t e = by-test (isFactor p x) yes no
+pub exact_factor : (z : Quantized) (q : ℕ) (x : Float) → T (fits binary64 x) → exact_q z x ≡ Q16 q → factor_of q ≡ x
+exact_factor Refused q x t e = absurd (never_exact q e)
+exact_factor (Q16 p) q x t e = by_test (is_factor p x) yes no
   where
-    yes : isFactor p x ≡ true → factorOf q ≡ x
+    yes : is_factor p x ≡ true → factor_of q ≡ x
     yes h =
         let same : Q16 p ≡ Q16 q = rw h at e in
         let n : p ≡ q = cc in
-        ap factorOf (sym n) ∙ factor-same p x t h
+        ap factor_of (sym n) ∙ factor_same p x t h
 
-    no : isFactor p x ≡ false → factorOf q ≡ x
-    no h = absurd (never-exact q (rw h at e))
+    no : is_factor p x ≡ false → factor_of q ≡ x
+    no h = absurd (never_exact q (rw h at e))
 
 -- a named filter has the fields' number and q
-pub filter-from : (f : Fields) (k : RecordFilter) → Named f k → FilterSound k f
-    → (filterCode k ≡ f.head.filter) × (filterQ k ≡ Q16 f.q)
-unfolding filterQ
-filter-from f k (whole-job e n z) s = let t = rw e at s in rw (e, n) (refl, factor-exact 1 f.q (lit≤ tt) t.1)
-filter-from f k (restoration e n z) s = let t = rw e at s in rw (e, n) (refl, factor-exact 1 f.q (lit≤ tt) t.1)
-filter-from f k (unsharp e n) s = let t = rw e at s in rw (e, n) (refl, factor-exact 8 f.q (lit≤ tt) t)
-filter-from f k (binomial e n) s = let t = rw e at s in rw (e, n, t.0) (refl, refl)
+pub filter_from_lem : (f : Fields) (k : RecordFilter) → Named f k → FilterSound k f
+    → (filter_code k ≡ f.head.filter) × (filter_q k ≡ Q16 f.q)
+unfolding filter_q
+filter_from_lem f k (whole_job e n z) s = let t = rw e at s in rw (e, n) (refl, factor_exact 1 f.q (lit≤ tt) t.1)
+filter_from_lem f k (restoration e n z) s = let t = rw e at s in rw (e, n) (refl, factor_exact 1 f.q (lit≤ tt) t.1)
+filter_from_lem f k (unsharp e n) s = let t = rw e at s in rw (e, n) (refl, factor_exact 8 f.q (lit≤ tt) t)
+filter_from_lem f k (binomial e n) s = let t = rw e at s in rw (e, n, t.0) (refl, refl)
 
 -- fields that read as a record
 pub record Reads (f : Fields) (k : RecordFilter) : Type 0 where
-  pub named : filterFrom f ≡ Known k
+  pub named : filter_from f ≡ Known k
   pub within : legal k f ≡ true
 
 -- .. are those of their record
-pub fields-record : (f : Fields) (k : RecordFilter) → f.angle < 256 ^ 8 → f.estimate < 256 ^ 8 → Reads f k
-    → recordFields (recordOf k f) ≡ Legal f
-unfolding recordFields recordOf fields_of
-fields-record f k a b h =
+pub fields_record : (f : Fields) (k : RecordFilter) → f.angle < 256 ^ 8 → f.estimate < 256 ^ 8 → Reads f k
+    → record_fields (record_of k f) ≡ Legal f
+unfolding record_fields record_of fields_of
+fields_record f k a b h =
     let s = sound f k h.within in
-    let p = filter-from f k (named f k h.named) s.filter in
-    let d = border-from f.border f.value s.border in
+    let p = filter_from_lem f k (named f k h.named) s.filter in
+    let d = border_from_lem f.border f.value s.border in
     rw (
       p.1,
       p.0,
-      index-from f.direction s.direction,
+      index_from f.direction s.direction,
       d.0,
       d.1,
-      bits_back f.angle a (angle-finite f.angle s.angle),
+      bits_back f.angle a (angle_finite f.angle s.angle),
       bits_back f.estimate b s.estimate,
     )
-    (checked-legal k f h.within)
+    (checked_legal k f h.within)
 
 -- what a record that a program holds has: numbers of their types, and doubles
 abbrev pub FactorFits : RecordFilter → Type 0
@@ -113,104 +113,104 @@ pub record Held (r : Record) : Type 0 where
   pub angle : T (fits binary64 r.angle)
   pub estimate : T (fits binary64 r.estimate)
 
-from-filter : (k : RecordFilter) (f : Fields) → FactorFits k → filterQ k ≡ Q16 f.q → f.head.filter ≡ filterCode k
+from_filter : (k : RecordFilter) (f : Fields) → FactorFits k → filter_q k ≡ Q16 f.q → f.head.filter ≡ filter_code k
     → FilterSound k f → Named f k
-unfolding filterQ
-from-filter (WholeJob x) f t e n s = whole-job (ap WholeJob (sym (exact-factor (quantized 1 x) f.q x t e))) n s.0
-from-filter (Restoration x) f t e n s =
-    restoration (ap Restoration (sym (exact-factor (quantized 1 x) f.q x t e))) n (λ z. omega (arith, s.0, z))
-from-filter (Unsharp x) f t e n s = unsharp (ap Unsharp (sym (exact-factor (quantized 8 x) f.q x t e))) n
-from-filter Binomial f t e n s = binomial refl n
+unfolding filter_q
+from_filter (WholeJob x) f t e n s = whole_job (ap WholeJob (sym (exact_factor (quantized 1 x) f.q x t e))) n s.0
+from_filter (Restoration x) f t e n s =
+    restoration (ap Restoration (sym (exact_factor (quantized 1 x) f.q x t e))) n (λ z. omega (arith, s.0, z))
+from_filter (Unsharp x) f t e n s = unsharp (ap Unsharp (sym (exact_factor (quantized 8 x) f.q x t e))) n
+from_filter Binomial f t e n s = binomial refl n
 
-from_fields : (r : Record) (q : ℕ) → Held r → recordOf r.filter (fields_of r q) ≡ r
-unfolding recordOf fields_of
+from_fields : (r : Record) (q : ℕ) → Held r → record_of r.filter (fields_of r q) ≡ r
+unfolding record_of fields_of
 from_fields r q h =
     rw (
-      from-index r.direction,
-      from-border r.border,
+      from_index r.direction,
+      from_border r.border,
       of_bits-to_bits binary64 r.angle h.angle,
       of_bits-to_bits binary64 r.estimate h.estimate,
     )
 
-q-within : (k : RecordFilter) (f : Fields) → FilterSound k f → f.q < 256 ^ 4
-q-within (WholeJob x) f s = omega (arith, s.1)
-q-within (Restoration x) f s = omega (arith, s.1)
-q-within (Unsharp x) f s = omega (arith, s)
-q-within Binomial f s = omega (arith, s.0)
+q_within : (k : RecordFilter) (f : Fields) → FilterSound k f → f.q < 256 ^ 4
+q_within (WholeJob x) f s = omega (arith, s.1)
+q_within (Restoration x) f s = omega (arith, s.1)
+q_within (Unsharp x) f s = omega (arith, s)
+q_within Binomial f s = omega (arith, s.0)
 
-fields-in-bytes : (r : Record) (q : ℕ) → Held r → legal r.filter (fields_of r q) ≡ true → InBytes (fields_of r q)
+fields_in_bytes : (r : Record) (q : ℕ) → Held r → legal r.filter (fields_of r q) ≡ true → InBytes (fields_of r q)
 unfolding fields_of
-fields-in-bytes r q h l = record {
+fields_in_bytes r q h l = record {
   width = h.width;
   height = h.height;
   blur_length = h.blur_length;
   iterations = h.iterations;
-  q = q-within r.filter (fields_of r q) (sound (fields_of r q) r.filter l).filter;
+  q = q_within r.filter (fields_of r q) (sound (fields_of r q) r.filter l).filter;
   angle = to_bits-lt binary64 r.angle h.angle;
   estimate = to_bits-lt binary64 r.estimate h.estimate;
 }
 
-fields_read : (r : Record) (q : ℕ) → Held r → filterQ r.filter ≡ Q16 q → legal r.filter (fields_of r q) ≡ true
+fields_read : (r : Record) (q : ℕ) → Held r → filter_q r.filter ≡ Q16 q → legal r.filter (fields_of r q) ≡ true
     → Reads (fields_of r q) r.filter
 unfolding fields_of
 fields_read r q h e l =
     let s = sound (fields_of r q) r.filter l in
     record {
-      named = filter-named _ _ (from-filter r.filter (fields_of r q) h.factor e refl s.filter);
+      named = filter_named _ _ (from_filter r.filter (fields_of r q) h.factor e refl s.filter);
       within = l;
     }
 
-never-legal : (f : Fields) → Broken ≡ Legal f → ⊥
-never-legal f e = let z : ◌≡◌ {A = ℕ} 0 1 = cc in omega arith
+never_legal : (f : Fields) → Broken ≡ Legal f → ⊥
+never_legal f e = let z : ◌≡◌ {A = ℕ} 0 1 = cc in omega arith
 
 -- what the fields of a record are
 pub record FieldsOf (r : Record) (f : Fields) : Type 0 where
-  pub same : recordOf r.filter f ≡ r
+  pub same : record_of r.filter f ≡ r
   pub reads : Reads f r.filter
   pub in_bytes : InBytes f
 
 -- a held record that breaks no limit is that of its fields
-pub record-fields : (r : Record) (f : Fields) → Held r → recordFields r ≡ Legal f → FieldsOf r f
-unfolding recordFields
-record-fields r f h = go (filterQ r.filter) refl
+pub record_fields_lem : (r : Record) (f : Fields) → Held r → record_fields r ≡ Legal f → FieldsOf r f
+unfolding record_fields
+record_fields_lem r f h = go (filter_q r.filter) refl
   where
-    found : (q : ℕ) → filterQ r.filter ≡ Q16 q → checked r.filter (fields_of r q) ≡ Legal f → FieldsOf r f
+    found : (q : ℕ) → filter_q r.filter ≡ Q16 q → checked r.filter (fields_of r q) ≡ Legal f → FieldsOf r f
     found q e c =
-        by-test (legal r.filter (fields_of r q))
+        by_test (legal r.filter (fields_of r q))
         (λ l.
         let same : Legal (fields_of r q) ≡ Legal f = rw l at c in
         let g : fields_of r q ≡ f = cc in
         rw (← g)
-        (record { same = from_fields r q h; reads = fields_read r q h e l; in_bytes = fields-in-bytes r q h l }))
-        (λ l. absurd (never-legal f (rw l at c)))
+        (record { same = from_fields r q h; reads = fields_read r q h e l; in_bytes = fields_in_bytes r q h l }))
+        (λ l. absurd (never_legal f (rw l at c)))
 
-    go : (z : Quantized) → filterQ r.filter ≡ z → withQ r z ≡ Legal f → FieldsOf r f
+    go : (z : Quantized) → filter_q r.filter ≡ z → with_q r z ≡ Legal f → FieldsOf r f
     go (Q16 q) e c = found q e c
-    go Refused e c = absurd (never-legal f c)
+    go Refused e c = absurd (never_legal f c)
 
 -- ---- reading and writing
 
-never-read : (r : Record) → answer.Refused 13 ≡ answer.Record r → ⊥
-never-read r e = let z : ◌≡◌ {A = ℕ} 0 1 = cc in omega arith
+never_read : (r : Record) → answer.Refused 13 ≡ answer.Record r → ⊥
+never_read r e = let z : ◌≡◌ {A = ℕ} 0 1 = cc in omega arith
 
-to_write : (r : Record) (old : List ℕ) (f : Fields) → toWrite r old ≡ Legal f → recordFields r ≡ Legal f
-unfolding toWrite
-to_write r old f e = by-test (eqb (length old) 32) (λ l. rw l at e) (λ l. absurd (never-legal f (rw l at e)))
+to_write : (r : Record) (old : List ℕ) (f : Fields) → to_write r old ≡ Legal f → record_fields r ≡ Legal f
+unfolding to_write
+to_write r old f e = by_test (eqb (length old) 32) (λ l. rw l at e) (λ l. absurd (never_legal f (rw l at e)))
 
 -- what is written reads as the same record
-pub read-written : (r : Record) (old new : List ℕ) → Held r → Wrote r old new 0 → readRecord new ≡ answer.Record r
-read-written r old new h w = go (toWrite r old) refl w.answers w.bytes
+pub read_written : (r : Record) (old new : List ℕ) → Held r → Wrote r old new 0 → read_record new ≡ answer.Record r
+read_written r old new h w = go (to_write r old) refl w.answers w.bytes
   where
-    legally : (f : Fields) → recordFields r ≡ Legal f → readRecord (encoded f) ≡ answer.Record r
+    legally : (f : Fields) → record_fields r ≡ Legal f → read_record (encoded f) ≡ answer.Record r
     legally f e =
-        let p = record-fields r f h e in
-        read_whole (encoded f) (encoded-length f)
-        ∙ ap readFields (decoded-encoded f p.in_bytes)
-        ∙ fields-legal f p.reads.named p.reads.within
+        let p = record_fields_lem r f h e in
+        read_whole (encoded f) (encoded_length f)
+        ∙ ap read_fields (decoded_encoded f p.in_bytes)
+        ∙ fields_legal f p.reads.named p.reads.within
         ∙ ap answer.Record p.same
 
-    go : (z : FieldsAnswer) → toWrite r old ≡ z → 0 ≡ writeNumber z → new ≡ writeBytes z old
-        → readRecord new ≡ answer.Record r
+    go : (z : FieldsAnswer) → to_write r old ≡ z → 0 ≡ write_number z → new ≡ write_bytes z old
+        → read_record new ≡ answer.Record r
     go (Legal f) e a b = rw b (legally f (to_write r old f e))
     go Broken e a b = absurd (omega (arith, a))
 
@@ -218,62 +218,62 @@ read-written r old new h w = go (toWrite r old) refl w.answers w.bytes
 pub record ReadFrom (xs : List ℕ) (r : Record) : Type 0 where
   pub whole : length xs ≡ 32
   pub reads : Reads (decoded xs) r.filter
-  pub same : recordOf r.filter (decoded xs) ≡ r
+  pub same : record_of r.filter (decoded xs) ≡ r
 
 module _ (f : Fields) (r : Record) where
-  known_is : (k : RecordFilter) → filterFrom f ≡ Known k → readAs (Known k) f ≡ answer.Record r
-      → Reads f r.filter × (recordOf r.filter f ≡ r)
-  unfolding recordOf
+  known_is : (k : RecordFilter) → filter_from f ≡ Known k → read_as (Known k) f ≡ answer.Record r
+      → Reads f r.filter × (record_of r.filter f ≡ r)
+  unfolding record_of
   known_is k e d =
-      by-test (legal k f)
+      by_test (legal k f)
       (λ l.
-      let same : answer.Record (recordOf k f) ≡ answer.Record r = rw l at d in
-      let g : recordOf k f ≡ r = cc in
+      let same : answer.Record (record_of k f) ≡ answer.Record r = rw l at d in
+      let g : record_of k f ≡ r = cc in
       let n : k ≡ r.filter = ap (λ (r : Record). r.filter) g in
-      subst (λ (k : RecordFilter). Reads f k × (recordOf k f ≡ r)) n (record { named = e; within = l }, g))
-      (λ l. absurd (never-read r (rw l at d)))
+      subst (λ (k : RecordFilter). Reads f k × (record_of k f ≡ r)) n (record { named = e; within = l }, g))
+      (λ l. absurd (never_read r (rw l at d)))
 
-  fields-is : readFields f ≡ answer.Record r → Reads f r.filter × (recordOf r.filter f ≡ r)
-  unfolding readFields
-  fields-is = go (filterFrom f) refl
+  fields-is : read_fields f ≡ answer.Record r → Reads f r.filter × (record_of r.filter f ≡ r)
+  unfolding read_fields
+  fields-is = go (filter_from f) refl
     where
-      go : (z : NamedFilter) → filterFrom f ≡ z → readAs z f ≡ answer.Record r
-          → Reads f r.filter × (recordOf r.filter f ≡ r)
+      go : (z : NamedFilter) → filter_from f ≡ z → read_as z f ≡ answer.Record r
+          → Reads f r.filter × (record_of r.filter f ≡ r)
       go (Known k) e d = known_is k e d
-      go Unknown e d = absurd (never-read r d)
+      go Unknown e d = absurd (never_read r d)
 
-pub read_is : (xs : List ℕ) (r : Record) → readRecord xs ≡ answer.Record r → ReadFrom xs r
-unfolding readRecord
+pub read_is : (xs : List ℕ) (r : Record) → read_record xs ≡ answer.Record r → ReadFrom xs r
+unfolding read_record
 read_is xs r e =
-    by-test (eqb (length xs) 32)
+    by_test (eqb (length xs) 32)
     (λ t.
     let p = fields-is (decoded xs) r (rw t at e) in
     record { whole = eqb-true (length xs) 32 t; reads = p.0; same = p.1 })
-    (λ t. absurd (never-read r (rw t at e)))
+    (λ t. absurd (never_read r (rw t at e)))
 
 -- the fields that were read are those of the record
-read-fields : (xs : List ℕ) (r : Record) → Bytes xs → readRecord xs ≡ answer.Record r
-    → (recordFields r ≡ Legal (decoded xs)) × (encoded (decoded xs) ≡ xs)
-read-fields xs r b e =
+read_fields_lem : (xs : List ℕ) (r : Record) → Bytes xs → read_record xs ≡ answer.Record r
+    → (record_fields r ≡ Legal (decoded xs)) × (encoded (decoded xs) ≡ xs)
+read_fields_lem xs r b e =
     let p = read_is xs r e in
-    let w = decoded-in-bytes xs p.whole b in (
-      ap recordFields (sym p.same) ∙ fields-record (decoded xs) r.filter w.angle w.estimate p.reads,
-      encoded-decoded xs p.whole b,
+    let w = decoded_in_bytes xs p.whole b in (
+      ap record_fields (sym p.same) ∙ fields_record (decoded xs) r.filter w.angle w.estimate p.reads,
+      encoded_decoded xs p.whole b,
     )
 
 -- what reads is written as the same bytes
-pub write_read : (xs : List ℕ) (r : Record) → Bytes xs → readRecord xs ≡ answer.Record r
+pub write_read : (xs : List ℕ) (r : Record) → Bytes xs → read_record xs ≡ answer.Record r
     → (old new : List ℕ) (n : ℕ) → length old ≡ 32 → Wrote r old new n → (n ≡ 0) × (new ≡ xs)
-unfolding toWrite
+unfolding to_write
 write_read xs r b e old new n l w =
-    let p = read-fields xs r b e in
+    let p = read_fields_lem xs r b e in
     (rw (l, p.0) at w.answers, (rw (l, p.0) at w.bytes) ∙ p.1)
 
 -- bytes that read as one record are the same
-pub read-unique : (xs ys : List ℕ) (r : Record) → Bytes xs → Bytes ys → readRecord xs ≡ answer.Record r
-    → readRecord ys ≡ answer.Record r → xs ≡ ys
-read-unique xs ys r b c e d =
-    let p = read-fields xs r b e in
-    let q = read-fields ys r c d in
+pub read_unique : (xs ys : List ℕ) (r : Record) → Bytes xs → Bytes ys → read_record xs ≡ answer.Record r
+    → read_record ys ≡ answer.Record r → xs ≡ ys
+read_unique xs ys r b c e d =
+    let p = read_fields_lem xs r b e in
+    let q = read_fields_lem ys r c d in
     let same : decoded xs ≡ decoded ys = cc in
     sym p.1 ∙ ap encoded same ∙ q.1

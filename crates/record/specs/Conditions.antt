@@ -4,7 +4,7 @@ use Rattle.std.specs.Prelude.{ℕ, false, List, [], ◌∷◌, ◌≡◌, length
 use Rattle.floats.specs.declared.Quantized.TheVariants.{Q16}
 use Rattle.image.specs.Conditions.{Refusal, given}
 use Rattle.record.specs.Fields.{decoded, legal}
-use Rattle.record.specs.Record.{filterFrom, filterQ, fields_of}
+use Rattle.record.specs.Record.{filter_from, filter_q, fields_of}
 use Rattle.record.specs.declared.fields.Fields.{Fields}
 use Rattle.record.specs.declared.NamedFilter.TheVariants.{Known}
 use Rattle.record.specs.declared.RecordFilter.{RecordFilter}
@@ -13,20 +13,20 @@ use Rattle.record.specs.declared.ReadAnswer.{ReadAnswer}
 use Rattle.record.specs.declared.ReadAnswer.TheVariants as answer
 
 -- 0, or the refusal's number
-abbrev pub readNumber : ReadAnswer → ℕ
-readNumber (answer.Record r) = 0
-readNumber (answer.Refused number) = number
+abbrev pub read_number : ReadAnswer → ℕ
+read_number (answer.Record r) = 0
+read_number (answer.Refused number) = number
 
 -- the fields name no filter, or break a limit of the one that they name
 abbrev pub FieldsBroken : Fields → Type 0
-FieldsBroken f = (k : RecordFilter) → filterFrom f ≡ Known k → legal k f ≡ false
+FieldsBroken f = (k : RecordFilter) → filter_from f ≡ Known k → legal k f ≡ false
 
 -- the factor is no q / 65,536, or the fields break a limit of the filter
 abbrev pub RecordBroken : Record → Type 0
-RecordBroken r = (q : ℕ) → filterQ r.filter ≡ Q16 q → legal r.filter (fields_of r q) ≡ false
+RecordBroken r = (q : ℕ) → filter_q r.filter ≡ Q16 q → legal r.filter (fields_of r q) ≡ false
 
-abbrev pub readConditions : List ℕ → List Refusal
-readConditions xs = given 13 (length xs ≡ 32 → ⊥) ∷ given 13 (FieldsBroken (decoded xs)) ∷ []
+abbrev pub read_conditions : List ℕ → List Refusal
+read_conditions xs = given 13 (length xs ≡ 32 → ⊥) ∷ given 13 (FieldsBroken (decoded xs)) ∷ []
 
-abbrev pub writeConditions : Record → List ℕ → List Refusal
-writeConditions r old = given 13 (length old ≡ 32 → ⊥) ∷ given 13 (RecordBroken r) ∷ []
+abbrev pub write_conditions : Record → List ℕ → List Refusal
+write_conditions r old = given 13 (length old ≡ 32 → ⊥) ∷ given 13 (RecordBroken r) ∷ []

@@ -1,7 +1,7 @@
 // The fields of a record as numbers.
 ghost use Rattle.std.specs.Prelude.{◌≡◌, length};
 ghost use Rattle.std.proofs.lemmas.List.Edits.{sets};
-ghost use Rattle.record.specs.Fields.{decodedHead, decoded, headBytes, countBytes, doubleBytes, encoded};
+ghost use Rattle.record.specs.Fields.{decoded_head, decoded, head_bytes, count_bytes, double_bytes, encoded};
 
 use crate::bytes::{number_at, put_number};
 
@@ -29,7 +29,7 @@ pub(crate) struct Fields {
 // The head in 32 bytes.
 pub(crate) fn head_in(bytes: &[u8]) -> Head
     requires { length bytes.now ≡ 32 }
-    ensures { result ≡ decodedHead bytes.now }
+    ensures { result ≡ decoded_head bytes.now }
 {
     Head {
         width: number_at(bytes, 0, 2) as u16,
@@ -68,7 +68,7 @@ fn put_head(
 )
     requires { length bytes.old ≡ 32 }
     ensures { bytes.new
-        ≡ sets bytes.old 0 (headBytes width height direction border value filter) }
+        ≡ sets bytes.old 0 (head_bytes width height direction border value filter) }
 {
     put_number(bytes, 0, 2, width as u64);
     put_number(bytes, 2, 2, height as u64);
@@ -81,7 +81,7 @@ fn put_head(
 // Blur length, iterations and q.
 fn put_counts(blur_length: u16, iterations: u16, q: u32, bytes: &mut [u8])
     requires { length bytes.old ≡ 32 }
-    ensures { bytes.new ≡ sets bytes.old 8 (countBytes blur_length iterations q) }
+    ensures { bytes.new ≡ sets bytes.old 8 (count_bytes blur_length iterations q) }
 {
     put_number(bytes, 8, 2, blur_length as u64);
     put_number(bytes, 10, 2, iterations as u64);
@@ -91,7 +91,7 @@ fn put_counts(blur_length: u16, iterations: u16, q: u32, bytes: &mut [u8])
 // Angle and estimate.
 fn put_doubles(angle: u64, estimate: u64, bytes: &mut [u8])
     requires { length bytes.old ≡ 32 }
-    ensures { bytes.new ≡ sets bytes.old 16 (doubleBytes angle estimate) }
+    ensures { bytes.new ≡ sets bytes.old 16 (double_bytes angle estimate) }
 {
     put_number(bytes, 16, 8, angle);
     put_number(bytes, 24, 8, estimate);

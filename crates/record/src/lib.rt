@@ -6,9 +6,9 @@ mod limits;
 ghost use Rattle.std.specs.Prelude.{◌≡◌, true};
 ghost use Rattle.std.specs.Float.Ieee.Scale.{finite};
 ghost use Rattle.record.specs.Fields.{legal};
-ghost use Rattle.record.specs.Record.{filterCode, usedFilter, filterFrom, recordOf, readFields};
-ghost use Rattle.record.specs.Record.{isFactor, exactQ, filterQ, fields_of, checked, recordFields};
-ghost use Rattle.record.specs.Record.{readRecord, Wrote, isJob};
+ghost use Rattle.record.specs.Record.{filter_code, used_filter, filter_from, record_of, read_fields};
+ghost use Rattle.record.specs.Record.{is_factor, exact_q, filter_q, fields_of, checked, record_fields};
+ghost use Rattle.record.specs.Record.{read_record, Wrote, is_job};
 
 use fields::{Fields, Head, fields_in, put_fields};
 use floats::Quantized;
@@ -29,7 +29,7 @@ pub enum RecordFilter {
 impl RecordFilter {
     // The filter's number in a record.
     pub fn code(self) -> u8
-        ensures { result ≡ filterCode self }
+        ensures { result ≡ filter_code self }
     {
         match self {
             RecordFilter::WholeJob(_) => 1,
@@ -41,7 +41,7 @@ impl RecordFilter {
 
     // The filter of a result: a whole job's is the restoration that it came to.
     pub fn used(self) -> Self
-        ensures { result ≡ usedFilter self }
+        ensures { result ≡ used_filter self }
     {
         match self {
             RecordFilter::WholeJob(relaxation) => RecordFilter::Restoration(relaxation),
@@ -87,7 +87,7 @@ enum NamedFilter {
 
 // Filter 1 of length 0 is the whole job.
 fn filter_from(fields: Fields) -> NamedFilter
-    ensures { result ≡ filterFrom fields }
+    ensures { result ≡ filter_from fields }
 {
     let filter = fields.head.filter;
     let factor = floats::factor_of_q16(fields.q);
@@ -106,7 +106,7 @@ fn filter_from(fields: Fields) -> NamedFilter
 
 fn record_of(filter: RecordFilter, fields: Fields) -> Record
     requires { legal filter fields ≡ true }
-    ensures { result ≡ recordOf filter fields }
+    ensures { result ≡ record_of filter fields }
 {
     Record {
         width: fields.head.width,
@@ -123,7 +123,7 @@ fn record_of(filter: RecordFilter, fields: Fields) -> Record
 
 // The record of fields that break no limit of the filter that they name.
 fn read_fields(fields: Fields) -> ReadAnswer
-    ensures { result ≡ readFields fields }
+    ensures { result ≡ read_fields fields }
 {
     match filter_from(fields) {
         NamedFilter::Known(filter) => {
@@ -138,7 +138,7 @@ fn read_fields(fields: Fields) -> ReadAnswer
 
 // Whether q / 65,536 is the factor, bit for bit: -0.0 would come back as 0.0.
 fn is_factor(q: u32, factor: f64) -> bool
-    ensures { result ≡ isFactor q factor }
+    ensures { result ≡ is_factor q factor }
 {
     if floats::is_finite(factor) {
         return f64::to_bits(floats::factor_of_q16(q)) == f64::to_bits(factor);
@@ -147,7 +147,7 @@ fn is_factor(q: u32, factor: f64) -> bool
 }
 
 fn exact_q(quantized: Quantized, factor: f64) -> Quantized
-    ensures { result ≡ exactQ quantized factor }
+    ensures { result ≡ exact_q quantized factor }
 {
     match quantized {
         Quantized::Q16(q) => {
@@ -161,7 +161,7 @@ fn exact_q(quantized: Quantized, factor: f64) -> Quantized
 }
 
 fn filter_q(filter: RecordFilter) -> Quantized
-    ensures { result ≡ filterQ filter }
+    ensures { result ≡ filter_q filter }
 {
     match filter {
         RecordFilter::WholeJob(factor) => exact_q(floats::quantize_relaxation(factor), factor),
@@ -212,7 +212,7 @@ fn checked_fields(record: Record, q: u32) -> FieldsAnswer
 }
 
 fn record_fields(record: Record) -> FieldsAnswer
-    ensures { result ≡ recordFields «record» }
+    ensures { result ≡ record_fields «record» }
 {
     let filter = record.filter;
     match filter_q(filter) {
@@ -223,7 +223,7 @@ fn record_fields(record: Record) -> FieldsAnswer
 
 // The record in 32 bytes.
 pub fn read(bytes: &[u8]) -> ReadAnswer
-    ensures { result ≡ readRecord bytes.now }
+    ensures { result ≡ read_record bytes.now }
 {
     if bytes.len() == 32 {
         return read_fields(fields_in(bytes));
@@ -249,7 +249,7 @@ pub fn write(record: Record, bytes: &mut [u8]) -> u8
 
 // Whether the record is a job's: direction 0 and estimate bits 0.
 pub fn is_job(record: Record) -> bool
-    ensures { result ≡ isJob «record» }
+    ensures { result ≡ is_job «record» }
 {
     if floats::is_finite(record.estimate) {
         let direction = record.direction;

@@ -1,7 +1,7 @@
 // The limits of a record's fields. Tests are joined by `&` and `|`: each ends, and none needs another's answer.
 ghost use Rattle.std.specs.Prelude.{◌≡◌};
-ghost use Rattle.record.specs.Fields.{sideLegal, lengthLegal, finiteBits, angleLegal, estimateLegal};
-ghost use Rattle.record.specs.Fields.{lineLegal, iteratedLegal, unmeasured, filterLegal, legal};
+ghost use Rattle.record.specs.Fields.{side_legal, length_legal, finite_bits, angle_legal, estimate_legal};
+ghost use Rattle.record.specs.Fields.{line_legal, iterated_legal, unmeasured, filter_legal, legal};
 
 use crate::RecordFilter;
 use crate::fields::Fields;
@@ -22,13 +22,13 @@ const MAX_RELAXATION_Q: u32 = Quantized::MAX_RELAXATION as u32 * Quantized::SCAL
 const MAX_GAIN_Q: u32 = Quantized::MAX_GAIN as u32 * Quantized::SCALE;
 
 fn is_side(n: u16) -> bool
-    ensures { result ≡ sideLegal n }
+    ensures { result ≡ side_legal n }
 {
     (1 <= n) & (n <= MAX_SIDE)
 }
 
 fn is_length(width: u16, height: u16, n: u16) -> bool
-    ensures { result ≡ lengthLegal width height n }
+    ensures { result ≡ length_legal width height n }
 {
     let longest = 2 * max_usize(width as usize, height as usize) + 1;
     (n % 2 == 1) & (3 <= n) & (n as usize <= longest)
@@ -36,7 +36,7 @@ fn is_length(width: u16, height: u16, n: u16) -> bool
 
 // Bits above infinity's are a NaN's, and no double is made of those.
 fn is_finite_bits(bits: u64) -> bool
-    ensures { result ≡ finiteBits bits }
+    ensures { result ≡ finite_bits bits }
 {
     if 0x7ff0_0000_0000_0000 < bits % 0x8000_0000_0000_0000 {
         return false;
@@ -46,7 +46,7 @@ fn is_finite_bits(bits: u64) -> bool
 
 // Whether the angle has a direction.
 fn is_angle(bits: u64) -> bool
-    ensures { result ≡ angleLegal bits }
+    ensures { result ≡ angle_legal bits }
 {
     if is_finite_bits(bits) {
         return RasterDirection4::from_angle(f64::from_bits(bits)).is_found();
@@ -55,7 +55,7 @@ fn is_angle(bits: u64) -> bool
 }
 
 fn is_estimate(bits: u64) -> bool
-    ensures { result ≡ estimateLegal bits }
+    ensures { result ≡ estimate_legal bits }
 {
     if is_finite_bits(bits) {
         return (bits == 0) | (0.0 < f64::from_bits(bits));
@@ -64,7 +64,7 @@ fn is_estimate(bits: u64) -> bool
 }
 
 fn is_line(fields: Fields) -> bool
-    ensures { result ≡ lineLegal fields }
+    ensures { result ≡ line_legal fields }
 {
     (fields.direction <= 3)
         & LineBorderMode::is_code(fields.border, fields.value)
@@ -74,7 +74,7 @@ fn is_line(fields: Fields) -> bool
 
 // What both restorations ask.
 fn is_iterated(fields: Fields) -> bool
-    ensures { result ≡ iteratedLegal fields }
+    ensures { result ≡ iterated_legal fields }
 {
     is_line(fields)
         & (1 <= fields.iterations)
@@ -92,7 +92,7 @@ fn is_unmeasured(fields: Fields) -> bool
 }
 
 fn is_filter(filter: RecordFilter, fields: Fields) -> bool
-    ensures { result ≡ filterLegal filter fields }
+    ensures { result ≡ filter_legal filter fields }
 {
     match filter {
         RecordFilter::WholeJob(_) => is_iterated(fields) & is_unmeasured(fields),

@@ -1,8 +1,8 @@
 -- An answer tells its decision.
 use mathlib.Core.Path.{◌≡◌, refl}
 use Rattle.image.specs.Call.{Decision, accepts, refuses}
-use Rattle.resize.specs.Call.{resizeAnswer, decisionOf}
+use Rattle.resize.specs.Call.{resize_answer, decision_of}
 
-pub decision-told : (d : Decision (Unit {0})) → decisionOf (resizeAnswer d) ≡ d
+pub decision-told : (d : Decision (Unit {0})) → decision_of (resize_answer d) ≡ d
 decision-told (accepts tt) = refl
 decision-told (refuses number) = refl

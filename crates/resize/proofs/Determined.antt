@@ -2,29 +2,29 @@
 use Prim.Native.Nat.{ℕ, ◌/◌}
 use lib.ListN.{length}
 use Rattle.image.specs.Call.{Gray8}
-use Rattle.image.specs.Determined.{Writes-one, Determines}
+use Rattle.image.specs.Determined.{WritesOne, Determines}
 use Rattle.image.specs.Picture.{pixel}
-use Rattle.image.proofs.Determined.{outcome-determines, painted-one}
-use Rattle.resize.specs.Call.{resizeAnswer, boxDecision, boxWrites, BoxHalved}
-use Rattle.resize.specs.Call.{halveDecision, halveWrites, Halved}
-use Rattle.resize.specs.Halving.{halved, halvedTimes, sideAfter}
+use Rattle.image.proofs.Determined.{outcome_determines, painted_one}
+use Rattle.resize.specs.Call.{resize_answer, box_decision, BoxWrites, BoxHalved}
+use Rattle.resize.specs.Call.{halve_decision, HalveWrites, Halved}
+use Rattle.resize.specs.Halving.{halved, halved_times, side_after}
 
-pub box-one : (src : Gray8) (dstStride : ℕ) → Writes-one (boxWrites src dstStride)
-box-one src = painted-one 0 (λ _. halved (pixel src.bytes src.stride)) (src.width / 2) (src.height / 2)
+pub box_one : (src : Gray8) (dst_stride : ℕ) → WritesOne (BoxWrites src dst_stride)
+box_one src = painted_one 0 (λ _. halved (pixel src.bytes src.stride)) (src.width / 2) (src.height / 2)
 
-pub box-determined : (src dst : Gray8)
+pub box_determined : (src dst : Gray8)
     → Determines {S = Unit {0}} (λ s. s) (λ _ _ new answer. BoxHalved src dst new answer)
-box-determined src dst =
-    outcome-determines (λ s. s) (λ _. boxDecision src dst) resizeAnswer (boxWrites src dst.stride)
-    (box-one src dst.stride) dst.bytes
+box_determined src dst =
+    outcome_determines (λ s. s) (λ _. box_decision src dst) resize_answer (BoxWrites src dst.stride)
+    (box_one src dst.stride) dst.bytes
 
-pub halve-one : (count : ℕ) (src : Gray8) (dstStride : ℕ) → Writes-one (halveWrites count src dstStride)
-halve-one count src =
-    painted-one 0 (λ _. halvedTimes count (pixel src.bytes src.stride)) (sideAfter count src.width)
-    (sideAfter count src.height)
+pub halve_one : (count : ℕ) (src : Gray8) (dst_stride : ℕ) → WritesOne (HalveWrites count src dst_stride)
+halve_one count src =
+    painted_one 0 (λ _. halved_times count (pixel src.bytes src.stride)) (side_after count src.width)
+    (side_after count src.height)
 
-pub halve-determined : (count : ℕ) (src dst : Gray8)
+pub halve_determined : (count : ℕ) (src dst : Gray8)
     → Determines length (λ scratch scratch' new answer. Halved count src dst new scratch scratch' answer)
-halve-determined count src dst =
-    outcome-determines length (halveDecision count src dst) resizeAnswer (halveWrites count src dst.stride)
-    (halve-one count src dst.stride) dst.bytes
+halve_determined count src dst =
+    outcome_determines length (halve_decision count src dst) resize_answer (HalveWrites count src dst.stride)
+    (halve_one count src dst.stride) dst.bytes

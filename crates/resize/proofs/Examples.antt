@@ -3,18 +3,18 @@ use Prim.Native.Nat.{ℕ}
 use mathlib.Core.Bool.{true, false}
 use mathlib.Core.List.{List, [], ◌∷◌, map}
 use mathlib.Core.Path.{◌≡◌, refl}
-use Rattle.image.specs.Picture.{pixel, tabulate, pixelsOf}
-use Rattle.image.specs.Refusal.{layoutRefusal, sizedRefusal}
-use Rattle.resize.specs.Call.{boxSidesRefusal, countRefusal, boxRefusal, halvingRefusal, halveRefusal}
-use Rattle.resize.specs.Halving.{meanOfFour, halved, halvedTimes, sideAfter, startsBelow2}
+use Rattle.image.specs.Picture.{pixel, tabulate, pixels_of}
+use Rattle.image.specs.Refusal.{layout_refusal, sized_refusal}
+use Rattle.resize.specs.Call.{box_sides_refusal, count_refusal, box_refusal, halving_refusal, halve_refusal}
+use Rattle.resize.specs.Halving.{mean_of_four, halved, halved_times, side_after, starts_below2}
 
 -- a half is rounded up: sums of 0 to 4
-means : map (λ d. meanOfFour 0 0 0 d) (0 ∷ 1 ∷ 2 ∷ 3 ∷ 4 ∷ []) ≡ 0 ∷ 0 ∷ 1 ∷ 1 ∷ 1 ∷ []
-unfolding meanOfFour
+means : map (λ d. mean_of_four 0 0 0 d) (0 ∷ 1 ∷ 2 ∷ 3 ∷ 4 ∷ []) ≡ 0 ∷ 0 ∷ 1 ∷ 1 ∷ 1 ∷ []
+unfolding mean_of_four
 means = refl
 
-white : meanOfFour 255 255 255 255 ≡ 255
-unfolding meanOfFour
+white : mean_of_four 255 255 255 255 ≡ 255
+unfolding mean_of_four
 white = refl
 
 -- ---- 5 by 5: the last row and the last column, of 9s, are dropped
@@ -28,16 +28,16 @@ five =
     ∷ 9 ∷ 9 ∷ 9 ∷ 9 ∷ 9
     ∷ []
 
-once : pixelsOf 2 2 (halved (pixel five 5)) ≡ 1 ∷ 255 ∷ 35 ∷ 55 ∷ []
-unfolding five meanOfFour tabulate
+once : pixels_of 2 2 (halved (pixel five 5)) ≡ 1 ∷ 255 ∷ 35 ∷ 55 ∷ []
+unfolding five mean_of_four tabulate
 once = refl
 
-twice : pixelsOf 1 1 (halvedTimes 2 (pixel five 5)) ≡ 87 ∷ []
-unfolding five meanOfFour tabulate halvedTimes
+twice : pixels_of 1 1 (halved_times 2 (pixel five 5)) ≡ 87 ∷ []
+unfolding five mean_of_four tabulate halved_times
 twice = refl
 
-none : pixelsOf 5 5 (halvedTimes 0 (pixel five 5)) ≡ five
-unfolding five tabulate halvedTimes
+none : pixels_of 5 5 (halved_times 0 (pixel five 5)) ≡ five
+unfolding five tabulate halved_times
 none = refl
 
 -- ---- each halving rounds: 2, where one mean over sixteen would be 1
@@ -45,60 +45,60 @@ none = refl
 four : List ℕ
 four = 1 ∷ 2 ∷ 1 ∷ 1 ∷ 2 ∷ 2 ∷ 0 ∷ 0 ∷ 2 ∷ 1 ∷ 2 ∷ 2 ∷ 0 ∷ 0 ∷ 1 ∷ 1 ∷ []
 
-rounds : halvedTimes 2 (pixel four 4) 0 0 ≡ 2
-unfolding four meanOfFour halvedTimes
+rounds : halved_times 2 (pixel four 4) 0 0 ≡ 2
+unfolding four mean_of_four halved_times
 rounds = refl
 
 -- ---- sides and 18
 
-sides : map (λ n. sideAfter n 1023) (0 ∷ 1 ∷ 2 ∷ 9 ∷ 10 ∷ []) ≡ 1023 ∷ 511 ∷ 255 ∷ 1 ∷ 0 ∷ []
-unfolding sideAfter
+sides : map (λ n. side_after n 1023) (0 ∷ 1 ∷ 2 ∷ 9 ∷ 10 ∷ []) ≡ 1023 ∷ 511 ∷ 255 ∷ 1 ∷ 0 ∷ []
+unfolding side_after
 sides = refl
 
-three : map (λ n. startsBelow2 n 3 3) (0 ∷ 1 ∷ 2 ∷ []) ≡ false ∷ false ∷ true ∷ []
-unfolding startsBelow2
+three : map (λ n. starts_below2 n 3 3) (0 ∷ 1 ∷ 2 ∷ []) ≡ false ∷ false ∷ true ∷ []
+unfolding starts_below2
 three = refl
 
 -- 1,024 by 1,024 has ten halvings, 1,023 by 1,024 has not
-ten : map (λ w. countRefusal 10 w 1024) (1024 ∷ 1023 ∷ []) ≡ 0 ∷ 18 ∷ []
-unfolding countRefusal startsBelow2
+ten : map (λ w. count_refusal 10 w 1024) (1024 ∷ 1023 ∷ []) ≡ 0 ∷ 18 ∷ []
+unfolding count_refusal starts_below2
 ten = refl
 
-eleven : countRefusal 11 1024 1024 ≡ 18
-unfolding countRefusal startsBelow2
+eleven : count_refusal 11 1024 1024 ≡ 18
+unfolding count_refusal starts_below2
 eleven = refl
 
 -- no halving starts from one pixel, and none is needed
-lone : map (λ n. countRefusal n 1 1) (0 ∷ 1 ∷ []) ≡ 0 ∷ 18 ∷ []
-unfolding countRefusal startsBelow2
+lone : map (λ n. count_refusal n 1 1) (0 ∷ 1 ∷ []) ≡ 0 ∷ 18 ∷ []
+unfolding count_refusal starts_below2
 lone = refl
 
 -- ---- 18 stands between 4 and 5, and 10 is last; the single halving has no 10
 
-short-source : halveRefusal 8 3 3 3 0 0 0 0 2 0 ≡ 4
-unfolding halveRefusal halvingRefusal countRefusal startsBelow2 layoutRefusal sizedRefusal sideAfter
-short-source = refl
+short_source : halve_refusal 8 3 3 3 0 0 0 0 2 0 ≡ 4
+unfolding halve_refusal halving_refusal count_refusal starts_below2 layout_refusal sized_refusal side_after
+short_source = refl
 
-eighteen-first : halveRefusal 9 3 3 3 0 0 0 0 2 0 ≡ 18
-unfolding halveRefusal halvingRefusal countRefusal startsBelow2 layoutRefusal sizedRefusal sideAfter
-eighteen-first = refl
+eighteen_first : halve_refusal 9 3 3 3 0 0 0 0 2 0 ≡ 18
+unfolding halve_refusal halving_refusal count_refusal starts_below2 layout_refusal sized_refusal side_after
+eighteen_first = refl
 
-then-5 : halveRefusal 9 3 3 3 0 0 0 0 1 0 ≡ 5
-unfolding halveRefusal halvingRefusal countRefusal startsBelow2 layoutRefusal sizedRefusal sideAfter
-then-5 = refl
+then_5 : halve_refusal 9 3 3 3 0 0 0 0 1 0 ≡ 5
+unfolding halve_refusal halving_refusal count_refusal starts_below2 layout_refusal sized_refusal side_after
+then_5 = refl
 
-then-6 : halveRefusal 9 3 3 3 4 2 2 2 1 0 ≡ 6
-unfolding halveRefusal halvingRefusal countRefusal startsBelow2 layoutRefusal sizedRefusal sideAfter
-then-6 = refl
+then_6 : halve_refusal 9 3 3 3 4 2 2 2 1 0 ≡ 6
+unfolding halve_refusal halving_refusal count_refusal starts_below2 layout_refusal sized_refusal side_after
+then_6 = refl
 
-then-10 : map (halveRefusal 9 3 3 3 1 1 1 1 1) (8 ∷ 9 ∷ []) ≡ 10 ∷ 0 ∷ []
-unfolding halveRefusal halvingRefusal countRefusal startsBelow2 layoutRefusal sizedRefusal sideAfter
-then-10 = refl
+then_10 : map (halve_refusal 9 3 3 3 1 1 1 1 1) (8 ∷ 9 ∷ []) ≡ 10 ∷ 0 ∷ []
+unfolding halve_refusal halving_refusal count_refusal starts_below2 layout_refusal sized_refusal side_after
+then_10 = refl
 
-copy-10 : map (halveRefusal 9 3 3 3 9 3 3 3 0) (8 ∷ 9 ∷ []) ≡ 10 ∷ 0 ∷ []
-unfolding halveRefusal halvingRefusal countRefusal startsBelow2 layoutRefusal sizedRefusal sideAfter
-copy-10 = refl
+copy_10 : map (halve_refusal 9 3 3 3 9 3 3 3 0) (8 ∷ 9 ∷ []) ≡ 10 ∷ 0 ∷ []
+unfolding halve_refusal halving_refusal count_refusal starts_below2 layout_refusal sized_refusal side_after
+copy_10 = refl
 
-single : map (λ h. boxRefusal 9 3 h 3 1 1 1 1) (1 ∷ 2 ∷ 3 ∷ 4 ∷ []) ≡ 18 ∷ 0 ∷ 0 ∷ 4 ∷ []
-unfolding boxRefusal boxSidesRefusal layoutRefusal sizedRefusal
+single : map (λ h. box_refusal 9 3 h 3 1 1 1 1) (1 ∷ 2 ∷ 3 ∷ 4 ∷ []) ≡ 18 ∷ 0 ∷ 0 ∷ 4 ∷ []
+unfolding box_refusal box_sides_refusal layout_refusal sized_refusal
 single = refl

@@ -2,109 +2,109 @@
 use Rattle.std.specs.Prelude.{ℕ, ◌*◌, ◌/◌, cond, ◌||◌, List, eqb, ltb, length}
 use Rattle.numbers.specs.Written.{Painted}
 use Rattle.image.specs.Call.{Gray8, Decision, accepts, refuses, decided, number_of, Outcome}
-use Rattle.image.specs.Refusal.{firstRefusal, layoutRefusal, sizedRefusal}
+use Rattle.image.specs.Refusal.{first_refusal, layout_refusal, sized_refusal}
 use Rattle.image.specs.Picture.{pixel}
-use Rattle.resize.specs.Halving.{halved, halvedTimes, sideAfter, startsBelow2}
+use Rattle.resize.specs.Halving.{halved, halved_times, side_after, starts_below2}
 use Rattle.resize.specs.declared.ResizeAnswer.{ResizeAnswer}
 use Rattle.resize.specs.declared.ResizeAnswer.TheVariants.{Done, Refused}
 
 -- ---- refusals: 0 is none
 
 -- "0 to 10"
-abbrev pub maxHalvings : ℕ
-maxHalvings = 10
+abbrev pub max_halvings : ℕ
+max_halvings = 10
 
 -- 18, of one halving: it would start from a side below 2
-unfoldable pub boxSidesRefusal : ℕ → ℕ → ℕ
-boxSidesRefusal w h = cond (ltb w 2 || ltb h 2) 18 0
+unfoldable pub box_sides_refusal : ℕ → ℕ → ℕ
+box_sides_refusal w h = cond (ltb w 2 || ltb h 2) 18 0
 
 -- 18, of a number of them: the count exceeds 10, or some halving would start from a side below 2
-unfoldable pub countRefusal : ℕ → ℕ → ℕ → ℕ
-countRefusal count w h = cond (ltb maxHalvings count || startsBelow2 count w h) 18 0
+unfoldable pub count_refusal : ℕ → ℕ → ℕ → ℕ
+count_refusal count w h = cond (ltb max_halvings count || starts_below2 count w h) 18 0
 
 -- .. by what is left of the sides: where `count` is at most 10 and the sides are not 0, this is the same (a law,
 -- `count_left`)
-unfoldable pub leftRefusal : ℕ → ℕ → ℕ
-leftRefusal w h = cond (eqb w 0 || eqb h 0) 18 0
+unfoldable pub left_refusal : ℕ → ℕ → ℕ
+left_refusal w h = cond (eqb w 0 || eqb h 0) 18 0
 
 -- "between 4 and 5": 1 to 4 of the source, then 18, then 5 of the destination and 6 where it has not the sides w and h
-abbrev pub resizeRefusal : ℕ → ℕ → ℕ → ℕ → ℕ → ℕ → ℕ → ℕ → ℕ → ℕ → ℕ → ℕ
-resizeRefusal len width height stride dstLen dstWidth dstHeight dstStride eighteen w h =
-    firstRefusal (layoutRefusal len width height stride)
-    (firstRefusal eighteen (sizedRefusal dstLen dstWidth dstHeight dstStride w h))
+abbrev pub resize_refusal : ℕ → ℕ → ℕ → ℕ → ℕ → ℕ → ℕ → ℕ → ℕ → ℕ → ℕ → ℕ
+resize_refusal len width height stride dst_len dst_width dst_height dst_stride eighteen w h =
+    first_refusal (layout_refusal len width height stride)
+    (first_refusal eighteen (sized_refusal dst_len dst_width dst_height dst_stride w h))
 
-unfoldable pub boxRefusal : ℕ → ℕ → ℕ → ℕ → ℕ → ℕ → ℕ → ℕ → ℕ
-unfolding boxSidesRefusal
-boxRefusal len width height stride dstLen dstWidth dstHeight dstStride =
-    resizeRefusal len width height stride dstLen dstWidth dstHeight dstStride (boxSidesRefusal width height)
+unfoldable pub box_refusal : ℕ → ℕ → ℕ → ℕ → ℕ → ℕ → ℕ → ℕ → ℕ
+unfolding box_sides_refusal
+box_refusal len width height stride dst_len dst_width dst_height dst_stride =
+    resize_refusal len width height stride dst_len dst_width dst_height dst_stride (box_sides_refusal width height)
     (width / 2) (height / 2)
 
-unfoldable pub halvingRefusal : ℕ → ℕ → ℕ → ℕ → ℕ → ℕ → ℕ → ℕ → ℕ → ℕ
-unfolding countRefusal sideAfter
-halvingRefusal len width height stride dstLen dstWidth dstHeight dstStride count =
-    resizeRefusal len width height stride dstLen dstWidth dstHeight dstStride (countRefusal count width height)
-    (sideAfter count width) (sideAfter count height)
+unfoldable pub halving_refusal : ℕ → ℕ → ℕ → ℕ → ℕ → ℕ → ℕ → ℕ → ℕ → ℕ
+unfolding count_refusal side_after
+halving_refusal len width height stride dst_len dst_width dst_height dst_stride count =
+    resize_refusal len width height stride dst_len dst_width dst_height dst_stride (count_refusal count width height)
+    (side_after count width) (side_after count height)
 
 -- how many bytes `halve` asks as scratch
-abbrev pub halveScratch : ℕ → ℕ → ℕ
-halveScratch width height = width * height
+abbrev pub halve_scratch : ℕ → ℕ → ℕ
+halve_scratch width height = width * height
 
 -- .. else 10
-unfoldable pub halveRefusal : ℕ → ℕ → ℕ → ℕ → ℕ → ℕ → ℕ → ℕ → ℕ → ℕ → ℕ
-unfolding halvingRefusal
-halveRefusal len width height stride dstLen dstWidth dstHeight dstStride count scratchLen =
-    firstRefusal (halvingRefusal len width height stride dstLen dstWidth dstHeight dstStride count)
-    (cond (ltb scratchLen (halveScratch width height)) 10 0)
+unfoldable pub halve_refusal : ℕ → ℕ → ℕ → ℕ → ℕ → ℕ → ℕ → ℕ → ℕ → ℕ → ℕ
+unfolding halving_refusal
+halve_refusal len width height stride dst_len dst_width dst_height dst_stride count scratch_len =
+    first_refusal (halving_refusal len width height stride dst_len dst_width dst_height dst_stride count)
+    (cond (ltb scratch_len (halve_scratch width height)) 10 0)
 
 -- ---- answers: the calls find nothing
 
-abbrev pub resizeAnswer : Decision (Unit {0}) → ResizeAnswer
-resizeAnswer (accepts found) = Done
-resizeAnswer (refuses number) = Refused number
+abbrev pub resize_answer : Decision (Unit {0}) → ResizeAnswer
+resize_answer (accepts found) = Done
+resize_answer (refuses number) = Refused number
 
 -- an answer's decision
-abbrev pub decisionOf : ResizeAnswer → Decision (Unit {0})
-decisionOf Done = accepts tt
-decisionOf (Refused number) = refuses number
+abbrev pub decision_of : ResizeAnswer → Decision (Unit {0})
+decision_of Done = accepts tt
+decision_of (Refused number) = refuses number
 
-abbrev pub answerNumber : ResizeAnswer → ℕ
-answerNumber answer = number_of (decisionOf answer)
+abbrev pub answer_number : ResizeAnswer → ℕ
+answer_number answer = number_of (decision_of answer)
 
 -- ---- `box_downscale_half`, which has no scratch
 
-abbrev pub boxDecision : Gray8 → Gray8 → Decision (Unit {0})
-boxDecision src dst =
+abbrev pub box_decision : Gray8 → Gray8 → Decision (Unit {0})
+box_decision src dst =
     decided
-    (boxRefusal (length src.bytes) src.width src.height src.stride (length dst.bytes) dst.width
+    (box_refusal (length src.bytes) src.width src.height src.stride (length dst.bytes) dst.width
     dst.height dst.stride)
     tt
 
 -- each pixel of the destination is the mean of four
-abbrev pub boxWrites : Gray8 → ℕ → Unit {0} → List ℕ → List ℕ → Type 0
-boxWrites src dstStride found old new =
-    Painted 0 (halved (pixel src.bytes src.stride)) (src.width / 2) (src.height / 2) dstStride old new
+abbrev pub BoxWrites : Gray8 → ℕ → Unit {0} → List ℕ → List ℕ → Type 0
+BoxWrites src dst_stride found old new =
+    Painted 0 (halved (pixel src.bytes src.stride)) (src.width / 2) (src.height / 2) dst_stride old new
 
 -- a call on a source, with a destination and what it is after
 abbrev pub BoxHalved : Gray8 → Gray8 → List ℕ → ResizeAnswer → Type 0
 BoxHalved src dst new answer =
-    Outcome (boxDecision src dst) resizeAnswer (boxWrites src dst.stride) dst.bytes new (tt {0}) (tt {0}) answer
+    Outcome (box_decision src dst) resize_answer (BoxWrites src dst.stride) dst.bytes new (tt {0}) (tt {0}) answer
 
 -- ---- `halve`
 
-abbrev pub halveDecision : ℕ → Gray8 → Gray8 → ℕ → Decision (Unit {0})
-halveDecision count src dst scratchLen =
+abbrev pub halve_decision : ℕ → Gray8 → Gray8 → ℕ → Decision (Unit {0})
+halve_decision count src dst scratch_len =
     decided
-    (halveRefusal (length src.bytes) src.width src.height src.stride (length dst.bytes) dst.width
-    dst.height dst.stride count scratchLen)
+    (halve_refusal (length src.bytes) src.width src.height src.stride (length dst.bytes) dst.width
+    dst.height dst.stride count scratch_len)
     tt
 
-abbrev pub halveWrites : ℕ → Gray8 → ℕ → Unit {0} → List ℕ → List ℕ → Type 0
-halveWrites count src dstStride found old new =
-    Painted 0 (halvedTimes count (pixel src.bytes src.stride)) (sideAfter count src.width)
-    (sideAfter count src.height) dstStride old new
+abbrev pub HalveWrites : ℕ → Gray8 → ℕ → Unit {0} → List ℕ → List ℕ → Type 0
+HalveWrites count src dst_stride found old new =
+    Painted 0 (halved_times count (pixel src.bytes src.stride)) (side_after count src.width)
+    (side_after count src.height) dst_stride old new
 
 -- the same, with the scratch before and after
 abbrev pub Halved : ℕ → Gray8 → Gray8 → List ℕ → List ℕ → List ℕ → ResizeAnswer → Type 0
 Halved count src dst new scratch scratch' answer =
-    Outcome (halveDecision count src dst (length scratch)) resizeAnswer (halveWrites count src dst.stride)
+    Outcome (halve_decision count src dst (length scratch)) resize_answer (HalveWrites count src dst.stride)
     dst.bytes new scratch scratch' answer

@@ -1,9 +1,9 @@
 -- Document 02, K8: each number with its condition, in the calls' order, and what is accepted.
 use Rattle.std.specs.Prelude.{ℕ, ◌/◌, ◌≤◌, ◌<◌, List, [], ◌∷◌, ◌++◌, ◌⊎◌, ◌≡◌}
-use Rattle.image.specs.Conditions.{Refusal, given, layoutConditions, sizedConditions}
+use Rattle.image.specs.Conditions.{Refusal, given, layout_conditions, sized_conditions}
 use Rattle.image.specs.Refusal.{Laid, LaidAt}
-use Rattle.resize.specs.Call.{maxHalvings, countRefusal, halveScratch}
-use Rattle.resize.specs.Halving.{sideAfter}
+use Rattle.resize.specs.Call.{max_halvings, count_refusal, halve_scratch}
+use Rattle.resize.specs.Halving.{side_after}
 
 -- a halving would start from a side below 2
 abbrev pub Below2 : ℕ → ℕ → Type 0
@@ -13,36 +13,36 @@ Below2 w h = (w < 2) ⊎ (h < 2)
 pub record SomeBelow2 (count w h : ℕ) : Type 0 where
   pub done : ℕ
   pub is_one : done < count
-  pub below : Below2 (sideAfter done w) (sideAfter done h)
+  pub below : Below2 (side_after done w) (side_after done h)
 
 -- 1 to 4, then 18 in its condition, then 5, and 6 where the destination has not the sides w and h
-abbrev pub resizeConditions : ℕ → ℕ → ℕ → ℕ → ℕ → ℕ → ℕ → ℕ → Type 0 → ℕ → ℕ → List Refusal
-resizeConditions len width height stride dstLen dstWidth dstHeight dstStride eighteen w h =
-    layoutConditions len width height stride
-    ++ (given 18 eighteen ∷ sizedConditions dstLen dstWidth dstHeight dstStride w h)
+abbrev pub resize_conditions : ℕ → ℕ → ℕ → ℕ → ℕ → ℕ → ℕ → ℕ → Type 0 → ℕ → ℕ → List Refusal
+resize_conditions len width height stride dst_len dst_width dst_height dst_stride eighteen w h =
+    layout_conditions len width height stride
+    ++ (given 18 eighteen ∷ sized_conditions dst_len dst_width dst_height dst_stride w h)
 
-abbrev pub boxConditions : ℕ → ℕ → ℕ → ℕ → ℕ → ℕ → ℕ → ℕ → List Refusal
-boxConditions len width height stride dstLen dstWidth dstHeight dstStride =
-    resizeConditions len width height stride dstLen dstWidth dstHeight dstStride (Below2 width height) (width / 2)
+abbrev pub box_conditions : ℕ → ℕ → ℕ → ℕ → ℕ → ℕ → ℕ → ℕ → List Refusal
+box_conditions len width height stride dst_len dst_width dst_height dst_stride =
+    resize_conditions len width height stride dst_len dst_width dst_height dst_stride (Below2 width height) (width / 2)
     (height / 2)
 
-abbrev pub halveConditions : ℕ → ℕ → ℕ → ℕ → ℕ → ℕ → ℕ → ℕ → ℕ → ℕ → List Refusal
-halveConditions len width height stride dstLen dstWidth dstHeight dstStride count scratchLen =
-    resizeConditions len width height stride dstLen dstWidth dstHeight dstStride
-    ((maxHalvings < count) ⊎ SomeBelow2 count width height) (sideAfter count width) (sideAfter count height)
-    ++ (given 10 (scratchLen < halveScratch width height) ∷ [])
+abbrev pub halve_conditions : ℕ → ℕ → ℕ → ℕ → ℕ → ℕ → ℕ → ℕ → ℕ → ℕ → List Refusal
+halve_conditions len width height stride dst_len dst_width dst_height dst_stride count scratch_len =
+    resize_conditions len width height stride dst_len dst_width dst_height dst_stride
+    ((max_halvings < count) ⊎ SomeBelow2 count width height) (side_after count width) (side_after count height)
+    ++ (given 10 (scratch_len < halve_scratch width height) ∷ [])
 
 -- ---- what is accepted
 
--- `resizeRefusal` is 0 exactly there.
-pub record Resizes (len width height stride dstLen dstWidth dstHeight dstStride eighteen w h : ℕ) : Type 0 where
+-- `resize_refusal` is 0 exactly there.
+pub record Resizes (len width height stride dst_len dst_width dst_height dst_stride eighteen w h : ℕ) : Type 0 where
   pub source : Laid len width height stride
   pub starts : eighteen ≡ 0
-  pub target : LaidAt dstLen dstWidth dstHeight dstStride w h
+  pub target : LaidAt dst_len dst_width dst_height dst_stride w h
 
--- `halveRefusal` is 0 exactly there.
-pub record HalveAccepted (len width height stride dstLen dstWidth dstHeight dstStride count scratchLen : ℕ)
+-- `halve_refusal` is 0 exactly there.
+pub record HalveAccepted (len width height stride dst_len dst_width dst_height dst_stride count scratch_len : ℕ)
     : Type 0 where
-  pub pictures : Resizes len width height stride dstLen dstWidth dstHeight dstStride (countRefusal count width height)
-      (sideAfter count width) (sideAfter count height)
-  pub scratch-least : halveScratch width height ≤ scratchLen
+  pub pictures : Resizes len width height stride dst_len dst_width dst_height dst_stride (count_refusal count width height)
+      (side_after count width) (side_after count height)
+  pub scratch_least : halve_scratch width height ≤ scratch_len

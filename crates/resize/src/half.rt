@@ -3,12 +3,12 @@ ghost use Rattle.std.specs.Prelude.{◌≡◌, ◌+◌, ◌*◌, ◌/◌, ◌≤
 ghost use Rattle.numbers.specs.Written.{Written, Painted, front, part};
 ghost use Rattle.image.specs.Refusal.{Laid};
 ghost use Rattle.image.specs.Picture.{pixel};
-ghost use Rattle.resize.specs.Halving.{meanOfFour, halved};
-ghost use Rattle.resize.specs.Rows.{halfAt, meanFrom, halfFrom};
+ghost use Rattle.resize.specs.Halving.{mean_of_four, halved};
+ghost use Rattle.resize.specs.Rows.{half_at, mean_from, half_from};
 
 // A half is rounded up. No sum passes 4 × 255 + 2, so 16 bits hold it.
 fn mean_of_four(a: u8, b: u8, c: u8, d: u8) -> u8
-    ensures { result ≡ meanOfFour a b c d }
+    ensures { result ≡ mean_of_four a b c d }
 {
     ((a as u16 + b as u16 + c as u16 + d as u16 + 2) / 4) as u8
 }
@@ -16,7 +16,7 @@ fn mean_of_four(a: u8, b: u8, c: u8, d: u8) -> u8
 // The mean for column x, of two rows.
 fn mean_at(above: &[u8], below: &[u8], x: usize) -> u8
     requires { (2 * x + 1 < length above.now) × (2 * x + 1 < length below.now) }
-    ensures { result ≡ halfAt above.now below.now x }
+    ensures { result ≡ half_at above.now below.now x }
 {
     mean_of_four(
         above[2 * x],
@@ -30,7 +30,7 @@ fn mean_at(above: &[u8], below: &[u8], x: usize) -> u8
 fn half_eight(above: &[u8], below: &[u8], dst: &mut [u8], x: usize)
     requires x_in_bounds { x + 8 ≤ length dst.old }
     requires dst_in_bounds { (2 * length dst.old ≤ length above.now) × (2 * length dst.old ≤ length below.now) }
-    ensures { Written 0 (part x 8) (halfAt above.now below.now) dst.old
+    ensures { Written 0 (part x 8) (half_at above.now below.now) dst.old
         dst.new }
 {
     let a = mean_at(above, below, x);
@@ -55,7 +55,7 @@ fn half_eight(above: &[u8], below: &[u8], dst: &mut [u8], x: usize)
 fn half_eights(above: &[u8], below: &[u8], dst: &mut [u8]) -> usize
     requires { (2 * length dst.old ≤ length above.now) × (2 * length dst.old ≤ length below.now) }
     ensures { (result ≤ length dst.old) × Written 0 (front result)
-        (halfAt above.now below.now) dst.old dst.new }
+        (half_at above.now below.now) dst.old dst.new }
 {
     let n = dst.len();
     let mut x = 0;
@@ -69,7 +69,7 @@ fn half_eights(above: &[u8], below: &[u8], dst: &mut [u8]) -> usize
 // A row from the two that it halves. An odd last column is not read.
 fn half_row(above: &[u8], below: &[u8], dst: &mut [u8])
     requires { (2 * length dst.old ≤ length above.now) × (2 * length dst.old ≤ length below.now) }
-    ensures { Written 0 (front (length dst.old)) (halfAt above.now below.now)
+    ensures { Written 0 (front (length dst.old)) (half_at above.now below.now)
         dst.old dst.new }
 {
     let n = dst.len();
@@ -113,7 +113,7 @@ pub(crate) fn half_rows(
 // The mean of two places from `at` on, and of the two a stride behind them.
 fn mean_within(s: &[u8], at: usize, stride: usize) -> u8
     requires { at + stride + 1 < length s.now }
-    ensures { result ≡ meanFrom s.now at stride }
+    ensures { result ≡ mean_from s.now at stride }
 {
     let below = at + stride;
     mean_of_four(s[at], s[at + 1], s[below], s[below + 1])
@@ -122,7 +122,7 @@ fn mean_within(s: &[u8], at: usize, stride: usize) -> u8
 // Eight places from `to` on, from two rows, the first from `from` on, the second a stride behind it.
 fn half_eight_within(s: &mut [u8], from: usize, stride: usize, to: usize)
     requires { (from + stride + 16 ≤ length s.old) × (to + 8 ≤ length s.old) }
-    ensures { Written 0 (part to 8) (halfFrom s.old from stride to) s.old
+    ensures { Written 0 (part to 8) (half_from s.old from stride to) s.old
         s.new }
 {
     let a = mean_within(s, from, stride);
@@ -147,7 +147,7 @@ fn half_eight_within(s: &mut [u8], from: usize, stride: usize, to: usize)
 // read from, so what is still to be read is as it was.
 fn half_eights_within(s: &mut [u8], from: usize, stride: usize, to: usize, n: usize) -> usize
     requires { (to ≤ from) × (from + stride + 2 * n ≤ length s.old) }
-    ensures { (result ≤ n) × Written 0 (part to result) (halfFrom s.old from stride to) s.old
+    ensures { (result ≤ n) × Written 0 (part to result) (half_from s.old from stride to) s.old
         s.new }
 {
     let mut x = 0;
@@ -161,7 +161,7 @@ fn half_eights_within(s: &mut [u8], from: usize, stride: usize, to: usize, n: us
 // n places one by one.
 fn half_rest_within(s: &mut [u8], from: usize, stride: usize, to: usize, n: usize)
     requires { (to ≤ from) × (from + stride + 2 * n ≤ length s.old) }
-    ensures { Written 0 (part to n) (halfFrom s.old from stride to) s.old
+    ensures { Written 0 (part to n) (half_from s.old from stride to) s.old
         s.new }
 {
     let mut x = 0;
@@ -174,7 +174,7 @@ fn half_rest_within(s: &mut [u8], from: usize, stride: usize, to: usize, n: usiz
 // A row of n places within one slice.
 fn half_row_within(s: &mut [u8], from: usize, stride: usize, to: usize, n: usize)
     requires { (to ≤ from) × (from + stride + 2 * n ≤ length s.old) }
-    ensures { Written 0 (part to n) (halfFrom s.old from stride to) s.old
+    ensures { Written 0 (part to n) (half_from s.old from stride to) s.old
         s.new }
 {
     let x = half_eights_within(s, from, stride, to, n);

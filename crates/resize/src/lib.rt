@@ -1,7 +1,7 @@
 // Half-size pictures: each pixel the mean of two by two, once or as many times as stated.
 ghost use Rattle.std.specs.Prelude.{◌≡◌};
 ghost use Rattle.image.specs.Call.{gray8};
-ghost use Rattle.resize.specs.Call.{BoxHalved, Halved, answerNumber};
+ghost use Rattle.resize.specs.Call.{BoxHalved, Halved, answer_number};
 
 mod half;
 mod refusal;
@@ -18,7 +18,7 @@ pub enum ResizeAnswer {
 impl ResizeAnswer {
     // The document's number: 0, or the refusal's.
     pub fn number(self) -> u8
-        ensures { result ≡ answerNumber self }
+        ensures { result ≡ answer_number self }
     {
         match self {
             ResizeAnswer::Done => 0,

@@ -1,13 +1,13 @@
 // What a number of halvings refuses, before its scratch.
 ghost use Rattle.std.specs.Prelude.{◌≡◌};
-ghost use Rattle.resize.specs.Halving.{sideAfter};
-ghost use Rattle.resize.specs.Call.{leftRefusal, halvingRefusal};
+ghost use Rattle.resize.specs.Halving.{side_after};
+ghost use Rattle.resize.specs.Call.{left_refusal, halving_refusal};
 
 pub const MAX_HALVINGS: usize = 10;
 
 // A side after some halvings.
 fn side_after(side: usize, count: usize) -> usize
-    ensures { result ≡ sideAfter count side }
+    ensures { result ≡ side_after count side }
 {
     let mut left = count;
     let mut now = side;
@@ -20,7 +20,7 @@ fn side_after(side: usize, count: usize) -> usize
 
 // 18, by what the halvings leave of the sides: one starts from a side below 2 exactly where nothing is left of it.
 fn left_refusal(width: usize, height: usize) -> u8
-    ensures { result ≡ leftRefusal width height }
+    ensures { result ≡ left_refusal width height }
 {
     if width == 0 || height == 0 {
         return 18;
@@ -40,7 +40,7 @@ pub(crate) fn halving_refusal(
     dst_stride: usize,
     count: usize,
 ) -> u8
-    ensures { result ≡ halvingRefusal src_len width height stride dst_len dst_width dst_height dst_stride
+    ensures { result ≡ halving_refusal src_len width height stride dst_len dst_width dst_height dst_stride
         count }
 {
     let own = image::layout_refusal(src_len, width, height, stride);

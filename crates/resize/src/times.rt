@@ -4,7 +4,7 @@ ghost use Rattle.std.specs.Prelude.{◌+◌, ◌*◌, ◌≤◌, length};
 ghost use Rattle.numbers.specs.Written.{Painted};
 ghost use Rattle.image.specs.Refusal.{Laid};
 ghost use Rattle.image.specs.Picture.{pixel};
-ghost use Rattle.resize.specs.Halving.{sideAfter, halvedTimes};
+ghost use Rattle.resize.specs.Halving.{side_after, halved_times};
 
 use crate::half::{half_rows, half_within};
 
@@ -18,9 +18,9 @@ fn halve_on(
     more: usize,
 )
     requires laid { Laid (length scratch.old) width height width }
-    requires laid_2 { Laid (length dst.old) (sideAfter (more + 1) width) (sideAfter (more + 1) height) dst_stride }
-    ensures { Painted 0 (halvedTimes (more + 1) (pixel scratch.old width))
-        (sideAfter (more + 1) width) (sideAfter (more + 1) height) dst_stride dst.old dst.new }
+    requires laid_2 { Laid (length dst.old) (side_after (more + 1) width) (side_after (more + 1) height) dst_stride }
+    ensures { Painted 0 (halved_times (more + 1) (pixel scratch.old width))
+        (side_after (more + 1) width) (side_after (more + 1) height) dst_stride dst.old dst.new }
 {
     if more == 0 {
         half_rows(scratch, width, height, width, dst, dst_stride);
@@ -41,10 +41,10 @@ pub(crate) fn halve_times(
     scratch: &mut [u8],
 )
     requires laid { Laid (length «data».now) width height stride }
-    requires laid_2 { Laid (length dst.old) (sideAfter count width) (sideAfter count height) dst_stride }
+    requires laid_2 { Laid (length dst.old) (side_after count width) (side_after count height) dst_stride }
     requires height_in_bounds { width * height ≤ length scratch.old }
-    ensures { Painted 0 (halvedTimes count (pixel «data».now stride))
-        (sideAfter count width) (sideAfter count height) dst_stride dst.old dst.new }
+    ensures { Painted 0 (halved_times count (pixel «data».now stride))
+        (side_after count width) (side_after count height) dst_stride dst.old dst.new }
 {
     if count == 0 {
         image::kernel::copy_rows(data, width, height, stride, dst, dst_stride);

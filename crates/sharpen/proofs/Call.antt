@@ -3,30 +3,30 @@ use Prim.Native.Nat.{ℕ, ◌≤◌, ◌<◌}
 use mathlib.Core.Path.{◌≡◌, refl}
 use borrow.Author.Tests.{lt-ltb, le-ltb}
 use Rattle.image.specs.Call.{Decision, accepts, refuses}
-use Rattle.image.specs.Refusal.{pairRefusal}
-use Rattle.image.proofs.Chain.{first-own}
-use Rattle.sharpen.specs.Call.{binomialScratch, binomialRefusal, sharpenAnswer, decisionOf}
+use Rattle.image.specs.Refusal.{pair_refusal}
+use Rattle.image.proofs.Chain.{first_own}
+use Rattle.sharpen.specs.Call.{binomial_scratch, binomial_refusal, sharpen_answer, decision_of}
 
-module _ (len width height stride dstLen dstWidth dstHeight dstStride scratchLen : ℕ) where
+module _ (len width height stride dst_len dst_width dst_height dst_stride scratch_len : ℕ) where
   abbrev pair : ℕ
-  pair = pairRefusal len width height stride dstLen dstWidth dstHeight dstStride
+  pair = pair_refusal len width height stride dst_len dst_width dst_height dst_stride
 
   abbrev whole : ℕ
-  whole = binomialRefusal len width height stride dstLen dstWidth dstHeight dstStride scratchLen
+  whole = binomial_refusal len width height stride dst_len dst_width dst_height dst_stride scratch_len
 
-  pub refusal-pair : (pair ≡ 0 → ⊥) → whole ≡ pair
-  unfolding binomialRefusal
-  refusal-pair h = first-own pair _ h
+  pub refusal_pair : (pair ≡ 0 → ⊥) → whole ≡ pair
+  unfolding binomial_refusal
+  refusal_pair h = first_own pair _ h
 
-  pub refusal-10 : pair ≡ 0 → scratchLen < binomialScratch width height → whole ≡ 10
-  unfolding binomialRefusal
-  refusal-10 e h = simp (e, lt-ltb scratchLen (binomialScratch width height) h)
+  pub refusal_10 : pair ≡ 0 → scratch_len < binomial_scratch width height → whole ≡ 10
+  unfolding binomial_refusal
+  refusal_10 e h = simp (e, lt-ltb scratch_len (binomial_scratch width height) h)
 
-  pub refusal-0 : pair ≡ 0 → binomialScratch width height ≤ scratchLen → whole ≡ 0
-  unfolding binomialRefusal
-  refusal-0 e h = simp (e, le-ltb scratchLen (binomialScratch width height) h)
+  pub refusal_0 : pair ≡ 0 → binomial_scratch width height ≤ scratch_len → whole ≡ 0
+  unfolding binomial_refusal
+  refusal_0 e h = simp (e, le-ltb scratch_len (binomial_scratch width height) h)
 
 -- an answer tells its decision
-pub decision-told : (d : Decision (Unit {0})) → decisionOf (sharpenAnswer d) ≡ d
-decision-told (accepts tt) = refl
-decision-told (refuses number) = refl
+pub decision_told : (d : Decision (Unit {0})) → decision_of (sharpen_answer d) ≡ d
+decision_told (accepts tt) = refl
+decision_told (refuses number) = refl

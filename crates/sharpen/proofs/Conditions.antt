@@ -1,5 +1,5 @@
--- The binomial unsharp is given each number in its condition and otherwise never (`sharpen-exactly`), and 0 exactly
--- where it is accepted (`binomial-iff`).
+-- The binomial unsharp is given each number in its condition and otherwise never (`sharpen_exactly`), and 0 exactly
+-- where it is accepted (`binomial_iff`).
 use Prim.Native.Nat.{ℕ}
 use native.Mathlib.Omega.{arith}
 use mathlib.Core.Logic.{◌↔◌}
@@ -8,53 +8,53 @@ use borrow.Author.Tests.{ltb-false}
 use lib.ListN.{length}
 use Rattle.image.specs.Call.{Gray8, number_of}
 use Rattle.image.specs.Conditions.{FirstMatch, Exactly}
-use Rattle.image.specs.Refusal.{pairRefusal}
-use Rattle.image.proofs.Chain.{first-zero, cond-zero}
-use Rattle.image.proofs.Conditions.{match_none, match-test, match-then, decided-exactly}
-use Rattle.image.proofs.Conditions.{pair_matches, pair-numbered, pair-iff}
+use Rattle.image.specs.Refusal.{pair_refusal}
+use Rattle.image.proofs.Chain.{first_zero, cond_zero}
+use Rattle.image.proofs.Conditions.{match_none, match_test, match_then, decided_exactly}
+use Rattle.image.proofs.Conditions.{pair_matches, pair_numbered, pair_iff}
 use Rattle.numbers.proofs.Test.{ltb_iff}
-use Rattle.sharpen.specs.Call.{binomialScratch, binomialRefusal, sharpenDecision}
-use Rattle.sharpen.specs.Conditions.{binomialConditions, BinomialAccepted}
-use Rattle.sharpen.proofs.Call.{refusal-0}
+use Rattle.sharpen.specs.Call.{binomial_scratch, binomial_refusal, sharpen_decision}
+use Rattle.sharpen.specs.Conditions.{binomial_conditions, BinomialAccepted}
+use Rattle.sharpen.proofs.Call.{refusal_0}
 
-module _ (len width height stride dstLen dstWidth dstHeight dstStride scratchLen : ℕ) where
+module _ (len width height stride dst_len dst_width dst_height dst_stride scratch_len : ℕ) where
   abbrev refusal : ℕ
-  refusal = binomialRefusal len width height stride dstLen dstWidth dstHeight dstStride scratchLen
+  refusal = binomial_refusal len width height stride dst_len dst_width dst_height dst_stride scratch_len
 
   binomial-matches : FirstMatch
-      (binomialConditions len width height stride dstLen dstWidth dstHeight dstStride scratchLen)
+      (binomial_conditions len width height stride dst_len dst_width dst_height dst_stride scratch_len)
       refusal
-  unfolding binomialRefusal
+  unfolding binomial_refusal
   binomial-matches =
-      match-then (pair_matches len width height stride dstLen dstWidth dstHeight dstStride)
-      (pair-numbered len width height stride dstLen dstWidth dstHeight dstStride)
-      (match-test 10 match_none (ltb_iff scratchLen (binomialScratch width height)))
+      match_then (pair_matches len width height stride dst_len dst_width dst_height dst_stride)
+      (pair_numbered len width height stride dst_len dst_width dst_height dst_stride)
+      (match_test 10 match_none (ltb_iff scratch_len (binomial_scratch width height)))
 
-  taken : refusal ≡ 0 → BinomialAccepted len width height stride dstLen dstWidth dstHeight dstStride scratchLen
-  unfolding binomialRefusal
+  taken : refusal ≡ 0 → BinomialAccepted len width height stride dst_len dst_width dst_height dst_stride scratch_len
+  unfolding binomial_refusal
   taken e =
-      let a = first-zero (pairRefusal len width height stride dstLen dstWidth dstHeight dstStride) _ e in
+      let a = first_zero (pair_refusal len width height stride dst_len dst_width dst_height dst_stride) _ e in
       record {
-        pictures = (pair-iff len width height stride dstLen dstWidth dstHeight dstStride).0 a.0;
-        scratch-least =
-            ltb-false scratchLen (binomialScratch width height) (cond-zero _ 10 0 (omega arith) a.1).0;
+        pictures = (pair_iff len width height stride dst_len dst_width dst_height dst_stride).0 a.0;
+        scratch_least =
+            ltb-false scratch_len (binomial_scratch width height) (cond_zero _ 10 0 (omega arith) a.1).0;
       }
 
-  pub binomial-iff : (refusal ≡ 0)
-      ↔ BinomialAccepted len width height stride dstLen dstWidth dstHeight dstStride scratchLen
-  binomial-iff = (
+  pub binomial_iff : (refusal ≡ 0)
+      ↔ BinomialAccepted len width height stride dst_len dst_width dst_height dst_stride scratch_len
+  binomial_iff = (
     taken,
-    λ a. refusal-0 len width height stride dstLen dstWidth dstHeight dstStride scratchLen
-        ((pair-iff len width height stride dstLen dstWidth dstHeight dstStride).1 a.pictures) a.scratch-least,
+    λ a. refusal_0 len width height stride dst_len dst_width dst_height dst_stride scratch_len
+        ((pair_iff len width height stride dst_len dst_width dst_height dst_stride).1 a.pictures) a.scratch_least,
   )
 
-pub sharpen-exactly : (src dst : Gray8) (scratchLen : ℕ)
+pub sharpen_exactly : (src dst : Gray8) (scratch_len : ℕ)
     → Exactly
-    (binomialConditions (length src.bytes) src.width src.height src.stride (length dst.bytes)
-    dst.width dst.height dst.stride scratchLen)
-    (number_of (sharpenDecision src dst scratchLen))
-sharpen-exactly src dst scratchLen =
-    decided-exactly
+    (binomial_conditions (length src.bytes) src.width src.height src.stride (length dst.bytes)
+    dst.width dst.height dst.stride scratch_len)
+    (number_of (sharpen_decision src dst scratch_len))
+sharpen_exactly src dst scratch_len =
+    decided_exactly
     (binomial-matches (length src.bytes) src.width src.height src.stride (length dst.bytes) dst.width
-    dst.height dst.stride scratchLen)
+    dst.height dst.stride scratch_len)
     tt

@@ -3,18 +3,18 @@ use Prim.Native.Nat.{ℕ}
 use lib.ListN.{length}
 use Rattle.image.specs.Call.{Gray8}
 use Rattle.image.specs.Picture.{pixel}
-use Rattle.image.specs.Determined.{Writes-one, Determines}
-use Rattle.image.proofs.Determined.{outcome-determines, painted-one}
+use Rattle.image.specs.Determined.{WritesOne, Determines}
+use Rattle.image.proofs.Determined.{outcome_determines, painted_one}
 use Rattle.sharpen.specs.Binomial.{unsharp}
-use Rattle.sharpen.specs.Call.{sharpenAnswer, sharpenDecision, sharpenWrites, Sharpened}
+use Rattle.sharpen.specs.Call.{sharpen_answer, sharpen_decision, SharpenWrites, Sharpened}
 
-pub sharpen-one : (src : Gray8) (dstStride : ℕ) → Writes-one (sharpenWrites src dstStride)
-sharpen-one src =
-    painted-one 0 (λ _. unsharp (pixel src.bytes src.stride) src.width src.height) src.width
+pub sharpen_one : (src : Gray8) (dst_stride : ℕ) → WritesOne (SharpenWrites src dst_stride)
+sharpen_one src =
+    painted_one 0 (λ _. unsharp (pixel src.bytes src.stride) src.width src.height) src.width
     src.height
 
-pub sharpened-determined : (src dst : Gray8)
+pub sharpened_determined : (src dst : Gray8)
     → Determines length (λ scratch scratch' new answer. Sharpened src dst new scratch scratch' answer)
-sharpened-determined src dst =
-    outcome-determines length (sharpenDecision src dst) sharpenAnswer (sharpenWrites src dst.stride)
-    (sharpen-one src dst.stride) dst.bytes
+sharpened_determined src dst =
+    outcome_determines length (sharpen_decision src dst) sharpen_answer (SharpenWrites src dst.stride)
+    (sharpen_one src dst.stride) dst.bytes

@@ -8,23 +8,23 @@ use native.Mathlib.Omega.{arith}
 use lib.ListN.{length, get_or, take, drop}
 use Rattle.numbers.specs.Written.{Written, Painted, front, part}
 use Rattle.numbers.proofs.List.{get_d_part, length_part}
-use Rattle.numbers.proofs.Places.{part_join, within-front}
-use Rattle.numbers.proofs.Written.{written-join, written-part, painted-get}
+use Rattle.numbers.proofs.Places.{part_join, within_front}
+use Rattle.numbers.proofs.Written.{written_join, written_part, painted_get}
 use Rattle.image.specs.Picture.{pixel}
-use Rattle.image.proofs.Rows.{row-end-within, row-part-length, row-part-at}
-use Rattle.sharpen.specs.Binomial.{tapPlace, binomialSum, sharper, unsharp}
-use Rattle.sharpen.specs.Passes.{weighed, tapSum, sum_at, insideAt, sharperAt, Sums, RowSums}
-use Rattle.sharpen.proofs.Binomial.{tap-lt, tap-inside, tap-sum-is, tap-sum-same, tap-sum-most, two-passes}
-use Rattle.sharpen.proofs.Places.{part-front}
+use Rattle.image.proofs.Rows.{row_end_within, row_part_length, row_part_at}
+use Rattle.sharpen.specs.Binomial.{tap_place, binomial_sum, sharper, unsharp}
+use Rattle.sharpen.specs.Passes.{weighed, tap_sum, sum_at, inside_at, sharper_at, Sums, RowSums}
+use Rattle.sharpen.proofs.Binomial.{tap_lt, tap_inside, tap_sum_is, tap_sum_same, tap_sum_most, two_passes}
+use Rattle.sharpen.proofs.Places.{part_front}
 
-pub inside_is : (row : List ℕ) (x : ℕ) → x + 4 < length row → insideAt row x ≡ sum_at row (2 + x)
+pub inside_is : (row : List ℕ) (x : ℕ) → x + 4 < length row → inside_at row x ≡ sum_at row (2 + x)
 inside_is row x h =
-    let e0 : tapPlace (length row) (2 + x) 0 ≡ x = tap-inside (length row) x 0 h (omega arith) ∙ omega arith in
-    let e1 = tap-inside (length row) x 1 h (omega arith) in
-    let e2 = tap-inside (length row) x 2 h (omega arith) in
-    let e3 = tap-inside (length row) x 3 h (omega arith) in
-    let e4 = tap-inside (length row) x 4 h (omega arith) in
-    rw (tap-sum-is (λ i. get_or row i 0) (length row) (2 + x), e0, e1, e2, e3, e4)
+    let e0 : tap_place (length row) (2 + x) 0 ≡ x = tap_inside (length row) x 0 h (omega arith) ∙ omega arith in
+    let e1 = tap_inside (length row) x 1 h (omega arith) in
+    let e2 = tap_inside (length row) x 2 h (omega arith) in
+    let e3 = tap_inside (length row) x 3 h (omega arith) in
+    let e4 = tap_inside (length row) x 4 h (omega arith) in
+    rw (tap_sum_is (λ i. get_or row i 0) (length row) (2 + x), e0, e1, e2, e3, e4)
 
 -- two columns, those inside, two columns
 module _ (row out out₁ ys out₃ : List ℕ) (long : 5 ≤ length row) (same : length out ≡ length row) where
@@ -35,73 +35,73 @@ module _ (row out out₁ ys out₃ : List ℕ) (long : 5 ≤ length row) (same :
   m = length row - 2 - 2
 
   pub row_written : Written 0 (part 0 2) (sum_at row) out out₁
-      → Written 0 (front (length (take m (drop 2 out₁)))) (insideAt row) (take m (drop 2 out₁)) ys
+      → Written 0 (front (length (take m (drop 2 out₁)))) (inside_at row) (take m (drop 2 out₁)) ys
       → Written 0 (part (n - 2) (n - (n - 2))) (sum_at row) (take 2 out₁ ++ (ys ++ drop m (drop 2 out₁))) out₃
       → Written 0 (front n) (sum_at row) out out₃
   row_written W₁ W₂ W₃ =
-      written-join (written-join W₁ inside (part_join 0 2 2 m (n - 2) refl (omega arith))) W₃
-      (λ j. part-front n j ∙ part_join 0 (n - 2) (n - 2) (n - (n - 2)) n (omega arith) (omega arith) j)
+      written_join (written_join W₁ inside (part_join 0 2 2 m (n - 2) refl (omega arith))) W₃
+      (λ j. part_front n j ∙ part_join 0 (n - 2) (n - 2) (n - (n - 2)) n (omega arith) (omega arith) j)
     where
       fits : 2 + m ≤ length out₁
       fits = omega (arith, W₁.same_length)
 
       inside : Written 0 (part 2 m) (sum_at row) out₁ (take 2 out₁ ++ (ys ++ drop m (drop 2 out₁)))
       inside =
-          written-part 2 m out₁ fits (rw (length_part 2 m out₁ fits) at W₂) (within-front 2 m m (le_refl m))
+          written_part 2 m out₁ fits (rw (length_part 2 m out₁ fits) at W₂) (within_front 2 m m (le_refl m))
           (λ i b _. inside_is row i (omega arith))
 
 -- ---- the first pass
 
-abbrev pub rowSum : List ℕ → ℕ → ℕ → ℕ → ℕ → ℕ
-rowSum xs s w c r = tapSum (λ i. pixel xs s i r) w c
+abbrev pub row_sum : List ℕ → ℕ → ℕ → ℕ → ℕ → ℕ
+row_sum xs s w c r = tap_sum (λ i. pixel xs s i r) w c
 
 -- a row of the source, as a part of m places
 module _ (xs : List ℕ) (w s y m : ℕ) (same : m ≡ w) (fits : y * s + w ≤ length xs) where
   abbrev row : List ℕ
   row = take m (drop (y * s) xs)
 
-  pub row-part-sum : (x : ℕ) → x < w → sum_at row x ≡ rowSum xs s w x y
-  row-part-sum x h =
-      rw (row-part-length xs w s y m same fits)
-      (tap-sum-same (λ i. get_or row i 0) (λ i. pixel xs s i y) w x h (row-part-at xs w s y m same fits))
+  pub row_part_sum : (x : ℕ) → x < w → sum_at row x ≡ row_sum xs s w x y
+  row_part_sum x h =
+      rw (row_part_length xs w s y m same fits)
+      (tap_sum_same (λ i. get_or row i 0) (λ i. pixel xs s i y) w x h (row_part_at xs w s y m same fits))
 
 -- the sums of all rows
-pub row-sums : (xs : List ℕ) (w h s : ℕ) (old new : List ℕ) → w * h ≤ length old
-    → Painted 0 (rowSum xs s w) w h w old new → RowSums (pixel xs s) w h new
-row-sums xs w h s old new b P x y p q =
-    painted-get (rowSum xs s w) w h w P x y p q (le_refl w) (omega (arith, row-end-within w h y q))
+pub row_sums_lem : (xs : List ℕ) (w h s : ℕ) (old new : List ℕ) → w * h ≤ length old
+    → Painted 0 (row_sum xs s w) w h w old new → RowSums (pixel xs s) w h new
+row_sums_lem xs w h s old new b P x y p q =
+    painted_get (row_sum xs s w) w h w P x y p q (le_refl w) (omega (arith, row_end_within w h y q))
 
 -- ---- the second pass
 
 module _ (px : ℕ → ℕ → ℕ) (w h : ℕ) (sums : List ℕ) (R : RowSums px w h sums) where
-  abbrev sumsRow : ℕ → List ℕ
-  sumsRow t = take w (drop (t * w) sums)
+  abbrev sums_row : ℕ → List ℕ
+  sums_row t = take w (drop (t * w) sums)
 
-  pub sums_at : (t x : ℕ) → t < h → x < w → get_or (sumsRow t) x 0 ≡ tapSum (λ c. px c t) w x
+  pub sums_at : (t x : ℕ) → t < h → x < w → get_or (sums_row t) x 0 ≡ tap_sum (λ c. px c t) w x
   sums_at t x b d = get_d_part (t * w) w sums x 0 d ∙ R x t d b
 
-  pub sums-row : w * h ≤ length sums → ((c r : ℕ) → c < w → r < h → px c r ≤ 255) → (t : ℕ) → t < h → Sums w (sumsRow t)
-  sums-row fits bytes t b =
+  pub sums_row : w * h ≤ length sums → ((c r : ℕ) → c < w → r < h → px c r ≤ 255) → (t : ℕ) → t < h → Sums w (sums_row t)
+  sums_row fits bytes t b =
       record {
-        long = length_part (t * w) w sums (omega (arith, row-end-within w h t b));
-        most = λ x d. rw (sums_at t x b d) (tap-sum-most (λ c. px c t) w x 255 d (λ c l. bytes c t l b));
+        long = length_part (t * w) w sums (omega (arith, row_end_within w h t b));
+        most = λ x d. rw (sums_at t x b d) (tap_sum_most (λ c. px c t) w x 255 d (λ c l. bytes c t l b));
       }
 
   -- five rows of sums, weighed
   pub down_is : (x y : ℕ) → x < w → y < h
-      → weighed (get_or (sumsRow (tapPlace h y 0)) x 0) (get_or (sumsRow (tapPlace h y 1)) x 0)
-      (get_or (sumsRow (tapPlace h y 2)) x 0) (get_or (sumsRow (tapPlace h y 3)) x 0)
-      (get_or (sumsRow (tapPlace h y 4)) x 0) ≡ binomialSum px w h x y
+      → weighed (get_or (sums_row (tap_place h y 0)) x 0) (get_or (sums_row (tap_place h y 1)) x 0)
+      (get_or (sums_row (tap_place h y 2)) x 0) (get_or (sums_row (tap_place h y 3)) x 0)
+      (get_or (sums_row (tap_place h y 4)) x 0) ≡ binomial_sum px w h x y
   down_is x y b d =
-      rw (at 0, at 1, at 2, at 3, at 4) (sym (tap-sum-is (λ r. tapSum (λ c. px c r) w x) h y) ∙ two-passes px w h x y)
+      rw (at 0, at 1, at 2, at 3, at 4) (sym (tap_sum_is (λ r. tap_sum (λ c. px c r) w x) h y) ∙ two_passes px w h x y)
     where
-      at : (i : ℕ) → get_or (sumsRow (tapPlace h y i)) x 0 ≡ tapSum (λ c. px c (tapPlace h y i)) w x
-      at i = sums_at (tapPlace h y i) x (tap-lt h y i d) b
+      at : (i : ℕ) → get_or (sums_row (tap_place h y i)) x 0 ≡ tap_sum (λ c. px c (tap_place h y i)) w x
+      at i = sums_at (tap_place h y i) x (tap_lt h y i d) b
 
   -- a pixel of the destination, from a row of the source and the rows a to e
-  pub sharp-is : (row a b c d e : List ℕ) (y : ℕ) → y < h → a ≡ sumsRow (tapPlace h y 0) → b ≡ sumsRow (tapPlace h y 1)
-      → c ≡ sumsRow (tapPlace h y 2) → d ≡ sumsRow (tapPlace h y 3) → e ≡ sumsRow (tapPlace h y 4) → (x : ℕ)
+  pub sharp_is : (row a b c d e : List ℕ) (y : ℕ) → y < h → a ≡ sums_row (tap_place h y 0) → b ≡ sums_row (tap_place h y 1)
+      → c ≡ sums_row (tap_place h y 2) → d ≡ sums_row (tap_place h y 3) → e ≡ sums_row (tap_place h y 4) → (x : ℕ)
       → x < w → get_or row x 0 ≡ px x y
-      → sharperAt row a b c d e x ≡ unsharp px w h x y
-  sharp-is row a b c d e y l ea eb ec ed ee x k ep =
+      → sharper_at row a b c d e x ≡ unsharp px w h x y
+  sharp_is row a b c d e y l ea eb ec ed ee x k ep =
       rw (ea, eb, ec, ed, ee, ep) (ap (sharper (px x y)) (down_is x y k l))

@@ -1,29 +1,29 @@
--- The five-tap sums of the two passes, for the contracts of `kernel`. That they make `binomialSum` is a law,
--- `two-passes`.
+-- The five-tap sums of the two passes, for the contracts of `kernel`. That they make `binomial_sum` is a law,
+-- `two_passes`.
 use Rattle.std.specs.Prelude.{ℕ, ◌+◌, ◌*◌, ◌≤◌, ◌<◌, List, ◌≡◌, length, get_or}
 use Rattle.numbers.specs.Sum.{count}
-use Rattle.sharpen.specs.Binomial.{weight, tapPlace, sharper}
+use Rattle.sharpen.specs.Binomial.{weight, tap_place, sharper}
 
 -- 1 4 6 4 1 times five values
 abbrev pub weighed : ℕ → ℕ → ℕ → ℕ → ℕ → ℕ
 weighed a b c d e = a + 4 * b + 6 * c + 4 * d + e
 
 -- the same by the weights: the sum of a line f of n at place p, its ends repeated
-unfoldable pub tapSum : (ℕ → ℕ) → ℕ → ℕ → ℕ
-tapSum f n p = count (λ i. weight i * f (tapPlace n p i)) 5
+unfoldable pub tap_sum : (ℕ → ℕ) → ℕ → ℕ → ℕ
+tap_sum f n p = count (λ i. weight i * f (tap_place n p i)) 5
 
 -- the sum of a row at a column
 abbrev pub sum_at : List ℕ → ℕ → ℕ
-sum_at row x = tapSum (λ c. get_or row c 0) (length row) x
+sum_at row x = tap_sum (λ c. get_or row c 0) (length row) x
 
 -- five columns of a row from x on, weighed
-abbrev pub insideAt : List ℕ → ℕ → ℕ
-insideAt row x =
+abbrev pub inside_at : List ℕ → ℕ → ℕ
+inside_at row x =
     weighed (get_or row x 0) (get_or row (x + 1) 0) (get_or row (x + 2) 0) (get_or row (x + 3) 0) (get_or row (x + 4) 0)
 
 -- the byte at column x of a row, with the five rows of sums that it weighs
-abbrev pub sharperAt : List ℕ → List ℕ → List ℕ → List ℕ → List ℕ → List ℕ → ℕ → ℕ
-sharperAt row a b c d e x =
+abbrev pub sharper_at : List ℕ → List ℕ → List ℕ → List ℕ → List ℕ → List ℕ → ℕ → ℕ
+sharper_at row a b c d e x =
     sharper (get_or row x 0) (weighed (get_or a x 0) (get_or b x 0) (get_or c x 0) (get_or d x 0) (get_or e x 0))
 
 -- n sums of bytes
@@ -36,4 +36,4 @@ FiveSums n a b c d e = Sums n a × Sums n b × Sums n c × Sums n d × Sums n e
 
 -- the sums of every row of a picture w by h, row behind row
 abbrev pub RowSums : (ℕ → ℕ → ℕ) → ℕ → ℕ → List ℕ → Type 0
-RowSums px w h xs = (x y : ℕ) → x < w → y < h → get_or xs (y * w + x) 0 ≡ tapSum (λ c. px c y) w x
+RowSums px w h xs = (x y : ℕ) → x < w → y < h → get_or xs (y * w + x) 0 ≡ tap_sum (λ c. px c y) w x

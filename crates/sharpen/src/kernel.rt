@@ -2,15 +2,15 @@
 // contiguous loop over parts of slices, without a test of borders in it.
 ghost use Rattle.std.specs.Prelude.{◌≡◌, ◌+◌, ◌-◌, ◌*◌, ◌≤◌, ◌<◌, length, take, drop};
 ghost use Rattle.numbers.specs.Written.{Written, Painted, front, part};
-ghost use Rattle.image.specs.Refusal.{maxSide, Laid};
+ghost use Rattle.image.specs.Refusal.{max_side, Laid};
 ghost use Rattle.image.specs.Picture.{pixel};
-ghost use Rattle.sharpen.specs.Binomial.{tapPlace, sharper, unsharp};
-ghost use Rattle.sharpen.specs.Passes.{weighed, sum_at, insideAt, sharperAt, FiveSums, RowSums};
+ghost use Rattle.sharpen.specs.Binomial.{tap_place, sharper, unsharp};
+ghost use Rattle.sharpen.specs.Passes.{weighed, sum_at, inside_at, sharper_at, FiveSums, RowSums};
 
 // Where tap i of place p lies, in a line of n.
 pub fn tap_place(n: usize, p: usize, i: usize) -> usize
-    requires { (p < n) × (i ≤ 4) × (n ≤ maxSide) }
-    ensures { result ≡ tapPlace n p i }
+    requires { (p < n) × (i ≤ 4) × (n ≤ max_side) }
+    ensures { result ≡ tap_place n p i }
 {
     let at = p + i;
     if at < 2 {
@@ -38,7 +38,7 @@ pub fn weigh_bytes(a: u8, b: u8, c: u8, d: u8, e: u8) -> u16
 
 // The sum at a column, borders and all.
 pub fn column_sum(row: &[u8], x: usize) -> u16
-    requires { (x < length row.now) × (length row.now ≤ maxSide) }
+    requires { (x < length row.now) × (length row.now ≤ max_side) }
     ensures { result ≡ sum_at row.now x }
 {
     let n = row.len();
@@ -51,7 +51,7 @@ pub fn column_sum(row: &[u8], x: usize) -> u16
 
 // The sums at the columns from a start to an end.
 pub fn blur_ends(row: &[u8], out: &mut [u16], start: usize, end: usize)
-    requires { (length out.old ≡ length row.now) × (length row.now ≤ maxSide) × (start ≤ end)
+    requires { (length out.old ≡ length row.now) × (length row.now ≤ max_side) × (start ≤ end)
         × (end ≤ length row.now) }
     ensures { Written 0 (part start (end - start)) (sum_at row.now)
         out.old out.new }
@@ -67,7 +67,7 @@ pub fn blur_ends(row: &[u8], out: &mut [u16], start: usize, end: usize)
 // last.
 pub fn blur_inside(row: &[u8], out: &mut [u16])
     requires { length row.now ≡ length out.old + 4 }
-    ensures { Written 0 (front (length out.old)) (insideAt row.now)
+    ensures { Written 0 (front (length out.old)) (inside_at row.now)
         out.old out.new }
 {
     let n = out.len();
@@ -79,7 +79,7 @@ pub fn blur_inside(row: &[u8], out: &mut [u16])
 }
 
 pub fn blur_row(row: &[u8], out: &mut [u16])
-    requires { (length out.old ≡ length row.now) × (length row.now ≤ maxSide) }
+    requires { (length out.old ≡ length row.now) × (length row.now ≤ max_side) }
     ensures { Written 0 (front (length row.now)) (sum_at row.now)
         out.old out.new }
 {
@@ -137,7 +137,7 @@ pub fn sharpen_row(
     requires row_len { length row.now ≡ length dst.old }
     requires five_sums { FiveSums (length dst.old) a.now b.now c.now d.now e.now }
     ensures { Written 0 (front (length dst.old))
-        (sharperAt row.now a.now b.now c.now
+        (sharper_at row.now a.now b.now c.now
         d.now e.now)
         dst.old dst.new }
 {
@@ -151,8 +151,8 @@ pub fn sharpen_row(
 
 // The row of sums at tap i of row y.
 pub fn tap_row(scratch: &[u16], width: usize, height: usize, y: usize, i: usize) -> &[u16]
-    requires { (y < height) × (i ≤ 4) × (height ≤ maxSide) × (width * height ≤ length scratch.now) }
-    ensures { result.now ≡ take width (drop (tapPlace height y i * width) scratch.now) }
+    requires { (y < height) × (i ≤ 4) × (height ≤ max_side) × (width * height ≤ length scratch.now) }
+    ensures { result.now ≡ take width (drop (tap_place height y i * width) scratch.now) }
 {
     let start = tap_place(height, y, i) * width;
     &scratch[start..start + width]

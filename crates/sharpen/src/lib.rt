@@ -1,7 +1,7 @@
 // The binomial unsharp: 2 × pixel − blur, with weights 1 4 6 4 1 both ways.
 ghost use Rattle.std.specs.Prelude.{◌≡◌};
 ghost use Rattle.image.specs.Call.{gray8};
-ghost use Rattle.sharpen.specs.Call.{Sharpened, answerNumber};
+ghost use Rattle.sharpen.specs.Call.{Sharpened, answer_number};
 
 mod kernel;
 
@@ -14,7 +14,7 @@ pub enum SharpenAnswer {
 impl SharpenAnswer {
     // The document's number: 0, or the refusal's.
     pub fn number(self) -> u8
-        ensures { result ≡ answerNumber self }
+        ensures { result ≡ answer_number self }
     {
         match self {
             SharpenAnswer::Done => 0,

@@ -5,28 +5,28 @@ use mathlib.Core.List.{List}
 use mathlib.Core.Path.{◌≡◌, refl}
 use lib.Dec.{ltb}
 use lib.ListN.{length}
-use Rattle.numbers.proofs.Test.{ap-cond, ltb_iff}
+use Rattle.numbers.proofs.Test.{ap_cond, ltb_iff}
 use Rattle.image.specs.Conditions.{Exactly}
-use Rattle.image.proofs.Conditions.{exactly, match-test}
-use Rattle.summary.specs.Conditions.{summaryNumber}
+use Rattle.image.proofs.Conditions.{exactly, match_test}
+use Rattle.summary.specs.Conditions.{summary_number}
 use Rattle.summary.specs.File.{summarized}
 use Rattle.summary.specs.declared.SummaryAnswer.{SummaryAnswer}
 use Rattle.summary.specs.declared.SummaryAnswer.TheVariants.{Summary, Refused}
-use Rattle.summary.proofs.Conditions.{summary-matches}
-use Rattle.smear_c.specs.Sheet.{sheetLength, SummaryLeft, leaves, answeredC, summarizedC}
-use Rattle.smear_c.specs.Sheet.{summaryConditionsC}
+use Rattle.summary.proofs.Conditions.{summary_matches}
+use Rattle.smear_c.specs.Sheet.{sheet_length, SummaryLeft, leaves, answered_c, summarized_c}
+use Rattle.smear_c.specs.Sheet.{summary_conditions_c}
 
 module _ (xs old : List ℕ) (before : ℕ) where
-  answered-number : (z : SummaryAnswer) → (answeredC z old before).number ≡ summaryNumber z
+  answered-number : (z : SummaryAnswer) → (answered_c z old before).number ≡ summary_number z
   answered-number (Summary s) = refl
   answered-number (Refused number i) = refl
 
-  pub summarized-exactly : Exactly (summaryConditionsC xs (length old)) (summarizedC xs old before).number
-  summarized-exactly =
+  pub summarized_exactly : Exactly (summary_conditions_c xs (length old)) (summarized_c xs old before).number
+  summarized_exactly =
       exactly
       (rw (
-        ap-cond (λ (left : SummaryLeft). left.number) (ltb (length old) sheetLength) (leaves 10 old before)
-            (answeredC (summarized xs) old before),
+        ap_cond (λ (left : SummaryLeft). left.number) (ltb (length old) sheet_length) (leaves 10 old before)
+            (answered_c (summarized xs) old before),
         answered-number (summarized xs),
       )
-      (match-test 10 (summary-matches xs) (ltb_iff (length old) sheetLength)))
+      (match_test 10 (summary_matches xs) (ltb_iff (length old) sheet_length)))

@@ -2,10 +2,10 @@
 use mathlib.Core.Path.{◌≡◌, refl}
 use Rattle.image.specs.Call.{Decision, accepts, refuses}
 use Rattle.raster.specs.declared.direction.RasterDirection4.{RasterDirection4}
-use Rattle.deblur.specs.Calls.{restorationAnswer}
-use Rattle.smear_c.specs.Restoration.{decisionOf}
+use Rattle.deblur.specs.Calls.{restoration_answer}
+use Rattle.smear_c.specs.Restoration.{decision_of}
 
 -- an answer tells its decision
-pub decision-told : (d : Decision RasterDirection4) → decisionOf (restorationAnswer d) ≡ d
-decision-told (accepts d) = refl
-decision-told (refuses number) = refl
+pub decision_told : (d : Decision RasterDirection4) → decision_of (restoration_answer d) ≡ d
+decision_told (accepts d) = refl
+decision_told (refuses number) = refl

@@ -3,14 +3,14 @@
 -- out-parameters.
 use Rattle.std.specs.Prelude.{ℕ, ℤ}
 use Rattle.tensor.specs.declared.direction.DirectionEstimate.{DirectionEstimate}
-use Rattle.raster.specs.Direction.{directionIndex}
+use Rattle.raster.specs.Direction.{direction_index}
 use Rattle.raster.specs.declared.direction.SnappedDirection.{SnappedDirection}
 use Rattle.raster.specs.declared.direction.SnappedDirection.TheVariants.{Found, Nothing}
 
 -- 0 to 3, or 4 where there is no direction
-abbrev pub snappedIndex : SnappedDirection → ℕ
-snappedIndex (Found d) = directionIndex d
-snappedIndex Nothing = 4
+abbrev pub snapped_index : SnappedDirection → ℕ
+snapped_index (Found d) = direction_index d
+snapped_index Nothing = 4
 
 -- the out-parameters
 pub record DirectionOuts : Type 0 where
@@ -20,5 +20,5 @@ pub record DirectionOuts : Type 0 where
   pub e : ℤ
 
 -- the direction's number and the sums
-abbrev pub directionOuts : DirectionEstimate → DirectionOuts
-directionOuts d = record { direction = directionIndex d.direction; a = d.a; c = d.c; e = d.e }
+abbrev pub direction_outs : DirectionEstimate → DirectionOuts
+direction_outs d = record { direction = direction_index d.direction; a = d.a; c = d.c; e = d.e }

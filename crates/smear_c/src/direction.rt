@@ -1,9 +1,9 @@
 // Direction from an angle and from a picture.
 ghost use Rattle.std.specs.Prelude.{◌≡◌};
 ghost use Rattle.image.specs.Call.{gray8, Returns};
-ghost use Rattle.tensor.specs.Tensor.{directionDecision};
-ghost use Rattle.raster.specs.Direction.{fromAngle};
-ghost use Rattle.smear_c.specs.Direction.{snappedIndex, directionOuts};
+ghost use Rattle.tensor.specs.Tensor.{direction_decision};
+ghost use Rattle.raster.specs.Direction.{from_angle};
+ghost use Rattle.smear_c.specs.Direction.{snapped_index, direction_outs};
 
 use raster::direction::{RasterDirection4, SnappedDirection};
 use tensor::direction::DirectionAnswer;
@@ -11,7 +11,7 @@ use tensor::estimate_line_direction;
 
 #[unsafe(no_mangle)]
 pub extern "C" fn smear_direction_from_angle(angle: f64) -> u8
-    ensures { result ≡ snappedIndex (fromAngle angle) }
+    ensures { result ≡ snapped_index (from_angle angle) }
 {
     match RasterDirection4::from_angle(angle) {
         SnappedDirection::Found(direction) => direction.index(),
@@ -30,7 +30,7 @@ pub extern "C" fn smear_estimate_line_direction(
     c: &mut i64,
     e: &mut i64,
 ) -> u8
-    ensures { Returns (directionDecision (gray8 src.now width height stride)) directionOuts
+    ensures { Returns (direction_decision (gray8 src.now width height stride)) direction_outs
         (record { direction = direction.entry.now; a = a.old; c = c.old; e = e.old })
         (record { direction = direction.exit.now; a = a.new; c = c.new; e = e.new })
         result }

@@ -1,14 +1,14 @@
 // The length of the line smear.
 ghost use Rattle.std.specs.Prelude.{◌≡◌};
 ghost use Rattle.image.specs.Call.{gray8, Returns};
-ghost use Rattle.raster.specs.Direction.{fromAngle};
-ghost use Rattle.smear_c.specs.Length.{lengthConfig, lengthDecided, pixelsOf, LengthMeasuredC};
+ghost use Rattle.raster.specs.Direction.{from_angle};
+ghost use Rattle.smear_c.specs.Length.{length_config, length_decided, pixels_of, LengthMeasuredC};
 
 use blur::length::{LengthAnswer, LineLength, LineLengthConfig, estimate_line_length_with};
 use swings::Swing;
 
 fn length_config(minimum_transitions: usize, minimum_amplitude: u8) -> LineLengthConfig
-    ensures { result ≡ lengthConfig minimum_transitions minimum_amplitude }
+    ensures { result ≡ length_config minimum_transitions minimum_amplitude }
 {
     LineLengthConfig {
         minimum_transitions,
@@ -18,7 +18,7 @@ fn length_config(minimum_transitions: usize, minimum_amplitude: u8) -> LineLengt
 
 // An answer as C has it: the result, and the length, 0.0 for Nothing.
 fn return_length(answer: LengthAnswer, length: &mut f64) -> u8
-    ensures { Returns (lengthDecided answer) pixelsOf length.old length.new result }
+    ensures { Returns (length_decided answer) pixels_of length.old length.new result }
 {
     match answer {
         LengthAnswer::Length(measured) => {
@@ -49,7 +49,7 @@ pub extern "C" fn smear_estimate_line_length(
     length: &mut f64,
 ) -> u8
     ensures { LengthMeasuredC (gray8 src.now width height stride)
-        (fromAngle angle) minimum_transitions minimum_amplitude
+        (from_angle angle) minimum_transitions minimum_amplitude
         length.old length.new swings.old swings.new result }
 {
     let config = length_config(minimum_transitions, minimum_amplitude);

@@ -1,7 +1,7 @@
 // Pictures as PGM for C.
 ghost use Rattle.image.specs.Call.{gray8, Returns};
-ghost use Rattle.pgm.specs.Read.{readDecision};
-ghost use Rattle.smear_c.specs.Pictures.{pictureOuts, outs, PgmWrittenC};
+ghost use Rattle.pgm.specs.Read.{read_decision};
+ghost use Rattle.smear_c.specs.Pictures.{picture_outs, outs, PgmWrittenC};
 
 use pgm::{PgmAnswer, WriteAnswer, read, write};
 
@@ -12,7 +12,7 @@ pub extern "C" fn smear_read_pgm(
     height: &mut usize,
     start: &mut usize,
 ) -> u8
-    ensures { Returns (readDecision file.now) pictureOuts
+    ensures { Returns (read_decision file.now) picture_outs
         (outs width.old height.old start.old)
         (outs width.new height.new start.new) result }
 {

@@ -1,9 +1,9 @@
 // Restoration and line unsharp for C.
 ghost use Rattle.std.specs.Prelude.{◌≡◌};
 ghost use Rattle.image.specs.Call.{gray8, Returns};
-ghost use Rattle.deblur.specs.Settings.{restorationOf, unsharpOf};
-ghost use Rattle.raster.specs.Direction.{directionIndex};
-ghost use Rattle.smear_c.specs.Restoration.{restorationConfig, unsharpConfig, decisionOf, FilteredC};
+ghost use Rattle.deblur.specs.Settings.{restoration_of, unsharp_of};
+ghost use Rattle.raster.specs.Direction.{direction_index};
+ghost use Rattle.smear_c.specs.Restoration.{restoration_config, unsharp_config, decision_of, FilteredC};
 ghost use Rattle.smear_c.specs.Restoration.{EstimateWrittenC};
 
 use deblur::{DirectionalUnsharpConfig, RestorationAnswer, VanCittertConfig};
@@ -17,7 +17,7 @@ fn restoration_config(
     border: u8,
     value: u8,
 ) -> VanCittertConfig
-    ensures { result ≡ restorationConfig angle blur_length iterations relaxation border value }
+    ensures { result ≡ restoration_config angle blur_length iterations relaxation border value }
 {
     VanCittertConfig {
         theta_radians: angle,
@@ -35,7 +35,7 @@ fn unsharp_config(
     border: u8,
     value: u8,
 ) -> DirectionalUnsharpConfig
-    ensures { result ≡ unsharpConfig angle blur_length gain border value }
+    ensures { result ≡ unsharp_config angle blur_length gain border value }
 {
     DirectionalUnsharpConfig {
         theta_radians: angle,
@@ -47,7 +47,7 @@ fn unsharp_config(
 
 // 0 and the direction's number, or the refusal's number.
 fn answer_c(answer: RestorationAnswer, direction: &mut u8) -> u8
-    ensures { Returns (decisionOf answer) directionIndex direction.old direction.new result }
+    ensures { Returns (decision_of answer) direction_index direction.old direction.new result }
 {
     match answer {
         RestorationAnswer::Done(metadata) => {
@@ -80,8 +80,8 @@ pub extern "C" fn smear_van_cittert_line(
 ) -> u8
     ensures { FilteredC (gray8 src.now width height stride)
         (gray8 dst.old dst_width dst_height dst_stride)
-        dst.new (restorationOf
-        (restorationConfig angle blur_length iterations relaxation border border_value))
+        dst.new (restoration_of
+        (restoration_config angle blur_length iterations relaxation border border_value))
         scratch.old scratch.new direction.old direction.new result }
 {
     let config = restoration_config(
@@ -116,7 +116,7 @@ pub extern "C" fn smear_van_cittert_estimate(
 ) -> u8
     ensures { EstimateWrittenC (gray8 src.now width height stride)
         dst.old dst.new
-        (restorationOf (restorationConfig angle blur_length iterations relaxation border border_value))
+        (restoration_of (restoration_config angle blur_length iterations relaxation border border_value))
         scratch.old scratch.new direction.old direction.new result }
 {
     let config = restoration_config(
@@ -153,7 +153,7 @@ pub extern "C" fn smear_directional_unsharp_line(
 ) -> u8
     ensures { FilteredC (gray8 src.now width height stride)
         (gray8 dst.old dst_width dst_height dst_stride)
-        dst.new (unsharpOf (unsharpConfig angle blur_length gain border border_value))
+        dst.new (unsharp_of (unsharp_config angle blur_length gain border border_value))
         scratch.old scratch.new direction.old direction.new result }
 {
     let config = unsharp_config(angle, blur_length, gain, border, border_value);

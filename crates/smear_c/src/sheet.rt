@@ -1,7 +1,7 @@
 // The round sheet for C.
 ghost use Rattle.std.specs.Prelude.{◌≡◌, ◌+◌, ◌≤◌, length};
 ghost use Rattle.std.proofs.lemmas.List.Edits.{sets};
-ghost use Rattle.smear_c.specs.Sheet.{sheetLength, directionNumbers, sheetNumbers, leaves, summarizedC};
+ghost use Rattle.smear_c.specs.Sheet.{sheet_length, direction_numbers, sheet_numbers, leaves, summarized_c};
 
 use summary::{DirectionSummary, RecordSummary, SummaryAnswer, summarize};
 
@@ -11,7 +11,7 @@ const NUMBERS: usize = 21;
 // A direction's five numbers, from `at` on.
 fn put_direction(direction: DirectionSummary, at: usize, sheet: &mut [u64])
     requires { at + 5 ≤ length sheet.old }
-    ensures { sheet.new ≡ sets sheet.old at (directionNumbers direction) }
+    ensures { sheet.new ≡ sets sheet.old at (direction_numbers direction) }
 {
     sheet[at] = direction.count;
     sheet[at + 1] = direction.total;
@@ -21,8 +21,8 @@ fn put_direction(direction: DirectionSummary, at: usize, sheet: &mut [u64])
 }
 
 fn put_summary(summary: RecordSummary, sheet: &mut [u64])
-    requires { sheetLength ≤ length sheet.old }
-    ensures { sheet.new ≡ sets sheet.old 0 (sheetNumbers summary) }
+    requires { sheet_length ≤ length sheet.old }
+    ensures { sheet.new ≡ sets sheet.old 0 (sheet_numbers summary) }
 {
     let horizontal = summary.horizontal;
     let down_right = summary.down_right;
@@ -38,7 +38,7 @@ fn put_summary(summary: RecordSummary, sheet: &mut [u64])
 #[unsafe(no_mangle)]
 pub extern "C" fn smear_summarize(records: &[u8], sheet: &mut [u64], index: &mut usize) -> u8
     ensures { leaves result sheet.new index.new
-        ≡ summarizedC records.now sheet.old index.old }
+        ≡ summarized_c records.now sheet.old index.old }
 {
     if sheet.len() < NUMBERS {
         return 10;

@@ -1,8 +1,8 @@
 // The whole job for C.
 ghost use Rattle.std.specs.Prelude.{◌≡◌};
 ghost use Rattle.image.specs.Call.{gray8, Returns};
-ghost use Rattle.job.specs.Job.{jobDecided};
-ghost use Rattle.smear_c.specs.WholeJob.{jobConfig, outs, jobOuts, RestoredC};
+ghost use Rattle.job.specs.Job.{job_decided};
+ghost use Rattle.smear_c.specs.WholeJob.{job_config, outs, job_outs, RestoredC};
 
 use job::{JobAnswer, JobConfig};
 use raster::border::LineBorderMode;
@@ -17,7 +17,7 @@ fn job_config(
     border: u8,
     value: u8,
 ) -> JobConfig
-    ensures { result ≡ jobConfig minimum_transitions minimum_amplitude minimum_confidence iterations relaxation
+    ensures { result ≡ job_config minimum_transitions minimum_amplitude minimum_confidence iterations relaxation
         border value }
 {
     JobConfig {
@@ -37,7 +37,7 @@ fn return_job(
     blur_length: &mut usize,
     estimate: &mut f64,
 ) -> u8
-    ensures { Returns (jobDecided answer) jobOuts
+    ensures { Returns (job_decided answer) job_outs
         (outs direction.old blur_length.old estimate.old)
         (outs direction.new blur_length.new estimate.new)
         result }
@@ -81,7 +81,7 @@ pub extern "C" fn smear_restore(
 ) -> u8
     ensures { RestoredC (gray8 src.now width height stride)
         (gray8 dst.old dst_width dst_height dst_stride)
-        dst.new (jobConfig minimum_transitions minimum_amplitude minimum_confidence iterations
+        dst.new (job_config minimum_transitions minimum_amplitude minimum_confidence iterations
         relaxation border border_value)
         scratch.old scratch.new swings.old swings.new
         (outs direction.old blur_length.old estimate.old)

@@ -1,5 +1,5 @@
--- Document 01, "The 32-byte record": "surplus picture bytes are ignored" (`surplus-ignored`). So two runs, the one with
--- surplus bytes, end alike, whatever the slices that they write to held (`ran-same`; `ran-alike` for equal outputs).
+-- Document 01, "The 32-byte record": "surplus picture bytes are ignored" (`surplus_ignored`). So two runs, the one with
+-- surplus bytes, end alike, whatever the slices that they write to held (`ran_same`; `ran_alike` for equal outputs).
 use Prim.Native.Nat.{ℕ, ◌+◌, ◌-◌, ◌*◌, ◌≤◌, ◌<◌}
 use native.Mathlib.Nat.{le_refl}
 use native.Mathlib.Omega.{arith}
@@ -10,24 +10,24 @@ use borrow.Author.Tests.{leb-true, ltb-true, ltb-false}
 use lib.Dec.{leb, ltb}
 use lib.Ieee.{Float}
 use lib.ListN.{length, take, length-append, get_or-append}
-use Rattle.numbers.specs.Scalar.{clampByte}
-use Rattle.numbers.proofs.Test.{by-test}
+use Rattle.numbers.specs.Scalar.{clamp_byte}
+use Rattle.numbers.proofs.Test.{by_test}
 use Rattle.image.specs.Call.{Decision, accepts, refuses, decided}
 use Rattle.image.specs.Picture.{pixel}
-use Rattle.image.specs.Refusal.{maxSide, Laid}
+use Rattle.image.specs.Refusal.{max_side, Laid}
 use Rattle.image.specs.Same.{SamePicture}
-use Rattle.image.proofs.Front.{fronts-alike}
-use Rattle.image.proofs.Refusal.{place-within}
-use Rattle.image.proofs.Tight.{pixels-same}
-use Rattle.deblur.specs.Calls.{decidedAlong}
-use Rattle.deblur.specs.Settings.{LineFilter, restorationOf, unsharpOf}
-use Rattle.deblur.proofs.RowStride.{walked-tight}
-use Rattle.deblur.proofs.Same.{filter-refusal-same, last-same}
-use Rattle.sharpen.proofs.Same.{binomial-refusal-same, unsharp-same}
+use Rattle.image.proofs.Front.{fronts_alike}
+use Rattle.image.proofs.Refusal.{place_within}
+use Rattle.image.proofs.Tight.{pixels_same}
+use Rattle.deblur.specs.Calls.{decided_along}
+use Rattle.deblur.specs.Settings.{LineFilter, restoration_of, unsharp_of}
+use Rattle.deblur.proofs.RowStride.{walked_tight}
+use Rattle.deblur.proofs.Same.{filter_refusal_same, last_same}
+use Rattle.sharpen.proofs.Same.{binomial_refusal_same, unsharp_same}
 use Rattle.job.specs.Job.{layout}
-use Rattle.job.proofs.Same.{plan-same, job-estimate-same}
-use Rattle.record.specs.Fields.{sideLegal, headLegal, filterLegal, decoded, legal}
-use Rattle.record.specs.Record.{readRecord, recordOf, isJob}
+use Rattle.job.proofs.Same.{plan_same, job_estimate_same}
+use Rattle.record.specs.Fields.{side_legal, head_legal, filter_legal, decoded, legal}
+use Rattle.record.specs.Record.{read_record, record_of, is_job}
 use Rattle.record.specs.declared.Record.{Record}
 use Rattle.record.specs.declared.ReadAnswer.{ReadAnswer}
 use Rattle.record.specs.declared.ReadAnswer.TheVariants as read
@@ -38,39 +38,39 @@ use Rattle.record.proofs.RoundTrip.{read_is}
 use Rattle.smear_run.specs.Stage.{
   Made,
   makes,
-  recordRestoration,
-  recordUnsharp,
-  recordJob,
-  mostPixels,
-  lineScratch,
+  record_restoration,
+  record_unsharp,
+  record_job,
+  most_pixels,
+  line_scratch,
   tight,
-  lineMade,
-  lineStage,
-  jobMade,
-  wholeJob,
-  binomialMade,
-  binomialStage,
-  stageOf,
+  line_made,
+  line_stage,
+  job_made,
+  whole_job,
+  binomial_made,
+  binomial_stage,
+  stage_of,
   stage,
 }
-use Rattle.smear_run.specs.Output.{thenRecord, printed, jobOutput, outputOf, output}
-use Rattle.smear_run.specs.Output.{Whole, runDecision, Ran}
+use Rattle.smear_run.specs.Output.{then_record, printed, job_output, output_of, output}
+use Rattle.smear_run.specs.Output.{Whole, run_decision, Ran}
 use Rattle.smear_run.specs.declared.RunAnswer.{RunAnswer}
-use Rattle.smear_run.proofs.Printed.{no-job, too_large, of-stage}
+use Rattle.smear_run.proofs.Printed.{no_job, too_large, of_stage}
 
 -- ---- two runs that print the same, whatever the slices that they write to held
 
 module _ (job p q : List ℕ) (same : output job p ≡ output job q) where
-  run-alike : {n n' : ℕ} → n ≡ n' → runDecision n (output job p) ≡ runDecision n' (output job q)
+  run-alike : {n n' : ℕ} → n ≡ n' → run_decision n (output job p) ≡ run_decision n' (output job q)
   run-alike e = rw (e, same)
 
   -- as many bytes are written, or the same refusal given, and the bytes are the same
-  pub ran-alike : {old new old' new' : List ℕ} {answer answer' : RunAnswer} → length old ≡ length old'
+  pub ran_alike : {old new old' new' : List ℕ} {answer answer' : RunAnswer} → length old ≡ length old'
       → Ran job p old new answer → Ran job q old' new' answer'
       → (answer ≡ answer')
-      × ((xs : List ℕ) → runDecision (length old) (output job p) ≡ accepts xs
+      × ((xs : List ℕ) → run_decision (length old) (output job p) ≡ accepts xs
       → take (length xs) new ≡ take (length xs) new')
-  ran-alike room o o' = fronts-alike (run-alike room) o o'
+  ran_alike room o o' = fronts_alike (run-alike room) o o'
 
 -- ---- two tight pictures that are the same
 
@@ -84,79 +84,79 @@ module _ (r : Record) {p q : List ℕ} (same : SamePicture (tight r p) (tight r 
     where
       go : (d : Decision R) → printed r (makes f d) ≡ printed r (makes g d)
       go (accepts found) =
-          let some = same.laid.width-pos in
-          ap₂ thenRecord
-          (pixels-same r.width r.height (f found).pixels (g found).pixels some (pixels found))
+          let some = same.laid.width_pos in
+          ap₂ then_record
+          (pixels_same r.width r.height (f found).pixels (g found).pixels some (pixels found))
           (results found)
       go (refuses number) = refl
 
-  line_same : (f : LineFilter) → printed r (lineStage r f p) ≡ printed r (lineStage r f q)
+  line_same : (f : LineFilter) → printed r (line_stage r f p) ≡ printed r (line_stage r f q)
   line_same f =
-      made-same (lineMade r f p) (lineMade r f q)
-      (ap (λ (n : ℕ). decidedAlong n f.direction)
-      (filter-refusal-same same (r.width * r.height) r.width r.height r.width f.refusal lineScratch))
+      made-same (line_made r f p) (line_made r f q)
+      (ap (λ (n : ℕ). decided_along n f.direction)
+      (filter_refusal_same same (r.width * r.height) r.width r.height r.width f.refusal line_scratch))
       (λ _. refl)
-      (λ d c y hc hy. ap clampByte (last-same same f.kernel d c y hc hy))
+      (λ d c y hc hy. ap clamp_byte (last_same same f.kernel d c y hc hy))
 
-  job-same : (relaxation : Float) → printed r (wholeJob r relaxation p) ≡ printed r (wholeJob r relaxation q)
-  job-same relaxation =
-      let config = recordJob r relaxation in
-      made-same (jobMade r config p) (jobMade r config q)
-      (plan-same same (layout (r.width * r.height) r.width r.height r.width) config lineScratch
-      mostPixels)
+  job_same : (relaxation : Float) → printed r (whole_job r relaxation p) ≡ printed r (whole_job r relaxation q)
+  job_same relaxation =
+      let config = record_job r relaxation in
+      made-same (job_made r config p) (job_made r config q)
+      (plan_same same (layout (r.width * r.height) r.width r.height r.width) config line_scratch
+      most_pixels)
       (λ _. refl)
-      (λ result c y hc hy. ap clampByte (job-estimate-same same config result config.iterations c y hc hy))
+      (λ result c y hc hy. ap clamp_byte (job_estimate_same same config result config.iterations c y hc hy))
 
-  binomial-same : printed r (binomialStage r p) ≡ printed r (binomialStage r q)
+  binomial-same : printed r (binomial_stage r p) ≡ printed r (binomial_stage r q)
   binomial-same =
-      made-same (binomialMade r p) (binomialMade r q)
+      made-same (binomial_made r p) (binomial_made r q)
       (ap (λ (n : ℕ). decided {R = Unit {0}} n tt)
-      (binomial-refusal-same same (r.width * r.height) r.width r.height r.width mostPixels))
+      (binomial_refusal_same same (r.width * r.height) r.width r.height r.width most_pixels))
       (λ _. refl)
-      (λ _ c y hc hy. unsharp-same (pixel p r.width) (pixel q r.width) r.width r.height c y
-      same.same-pixels hc hy)
+      (λ _ c y hc hy. unsharp_same (pixel p r.width) (pixel q r.width) r.width r.height c y
+      same.same_pixels hc hy)
 
   stage-same : printed r (stage r p) ≡ printed r (stage r q)
   unfolding stage
   stage-same = go r.filter
     where
-      go : (k : RecordFilter) → printed r (stageOf k r p) ≡ printed r (stageOf k r q)
-      go (WholeJob x) = job-same x
-      go (Restoration x) = line_same (restorationOf (recordRestoration r x))
-      go (Unsharp x) = line_same (unsharpOf (recordUnsharp r x))
+      go : (k : RecordFilter) → printed r (stage_of k r p) ≡ printed r (stage_of k r q)
+      go (WholeJob x) = job_same x
+      go (Restoration x) = line_same (restoration_of (record_restoration r x))
+      go (Unsharp x) = line_same (unsharp_of (record_unsharp r x))
       go Binomial = binomial-same
 
 -- ---- a picture with surplus bytes
 
-side-within : (n : ℕ) → sideLegal n ≡ true → (0 < n) × (n ≤ maxSide)
-side-within n e = let b = both (leb 1 n) (leb n maxSide) e in (leb-true 1 n b.0, leb-true n maxSide b.1)
+side_within : (n : ℕ) → side_legal n ≡ true → (0 < n) × (n ≤ max_side)
+side_within n e = let b = both (leb 1 n) (leb n max_side) e in (leb-true 1 n b.0, leb-true n max_side b.1)
 
 -- a record that was read has sides of a picture, so that a tight one which is long enough is accepted
-module _ (job : List ℕ) (r : Record) (reads : readRecord job ≡ read.Record r) where
-  sides : ((0 < r.width) × (r.width ≤ maxSide)) × ((0 < r.height) × (r.height ≤ maxSide))
-  unfolding legal recordOf
+module _ (job : List ℕ) (r : Record) (reads : read_record job ≡ read.Record r) where
+  sides : ((0 < r.width) × (r.width ≤ max_side)) × ((0 < r.height) × (r.height ≤ max_side))
+  unfolding legal record_of
   sides =
       let f = decoded job in
       let from = read_is job r reads in
-      let head = (both (headLegal f.head) (filterLegal r.filter f) from.reads.within).0 in
-      let side = both (sideLegal f.head.width) (sideLegal f.head.height) head in
+      let head = (both (head_legal f.head) (filter_legal r.filter f) from.reads.within).0 in
+      let side = both (side_legal f.head.width) (side_legal f.head.height) head in
       let width = ap (λ (r : Record). r.width) from.same in
       let height = ap (λ (r : Record). r.height) from.same in
-      rw (← width, ← height) (side-within f.head.width side.0, side-within f.head.height side.1)
+      rw (← width, ← height) (side_within f.head.width side.0, side_within f.head.height side.1)
 
   shortest : Laid (r.width * (r.height - 1) + r.width) r.width r.height r.width
   shortest =
       record {
-        width-pos = sides.0.0;
-        width-most = sides.0.1;
-        height-pos = sides.1.0;
-        height-most = sides.1.1;
-        stride-least = le_refl r.width;
-        len-least = le_refl (r.width * (r.height - 1) + r.width);
+        width_pos = sides.0.0;
+        width_most = sides.0.1;
+        height_pos = sides.1.0;
+        height_most = sides.1.1;
+        stride_least = le_refl r.width;
+        len_least = le_refl (r.width * (r.height - 1) + r.width);
       }
 
   laid-tight : {n : ℕ} → r.width * r.height ≤ n → Laid n r.width r.height r.width
-  laid-tight long = (walked-tight shortest long).laid
+  laid-tight long = (walked_tight shortest long).laid
 
   with-surplus : (picture extra : List ℕ) → r.width * r.height ≤ length picture
       → SamePicture (tight r (picture ++ extra)) (tight r picture)
@@ -166,44 +166,44 @@ module _ (job : List ℕ) (r : Record) (reads : readRecord job ≡ read.Record r
         laid = laid-tight (rw length-append (omega (arith, holds)));
         laid' = l;
         same_width = refl;
-        same-height = refl;
-        same-pixels = λ c y hc hy.
-            get_or-append picture extra 0 (y * r.width + c) (place-within l c y hc hy);
+        same_height = refl;
+        same_pixels = λ c y hc hy.
+            get_or-append picture extra 0 (y * r.width + c) (place_within l c y hc hy);
       }
 
 module _ (job picture extra : List ℕ) (whole : Whole job picture) where
-  pub surplus-ignored : output job (picture ++ extra) ≡ output job picture
+  pub surplus_ignored : output job (picture ++ extra) ≡ output job picture
   unfolding output
-  surplus-ignored = go (readRecord job) refl
+  surplus_ignored = go (read_record job) refl
     where
-      large : (r : Record) → isJob r ≡ true → mostPixels < r.width * r.height
-          → jobOutput r (picture ++ extra) ≡ jobOutput r picture
-      large r is-job many = too_large r (picture ++ extra) is-job many ∙ sym (too_large r picture is-job many)
+      large : (r : Record) → is_job r ≡ true → most_pixels < r.width * r.height
+          → job_output r (picture ++ extra) ≡ job_output r picture
+      large r is_job_holds many = too_large r (picture ++ extra) is_job_holds many ∙ sym (too_large r picture is_job_holds many)
 
-      small : (r : Record) → readRecord job ≡ read.Record r → isJob r ≡ true → r.width * r.height ≤ mostPixels
-          → jobOutput r (picture ++ extra) ≡ jobOutput r picture
-      small r reads is-job few =
-          of-stage r (picture ++ extra) is-job few
-          ∙ stage-same r (with-surplus job r reads picture extra (whole r reads is-job few))
-          ∙ sym (of-stage r picture is-job few)
+      small : (r : Record) → read_record job ≡ read.Record r → is_job r ≡ true → r.width * r.height ≤ most_pixels
+          → job_output r (picture ++ extra) ≡ job_output r picture
+      small r reads is_job_holds few =
+          of_stage r (picture ++ extra) is_job_holds few
+          ∙ stage-same r (with-surplus job r reads picture extra (whole r reads is_job_holds few))
+          ∙ sym (of_stage r picture is_job_holds few)
 
-      go : (a : ReadAnswer) → readRecord job ≡ a → outputOf a (picture ++ extra) ≡ outputOf a picture
+      go : (a : ReadAnswer) → read_record job ≡ a → output_of a (picture ++ extra) ≡ output_of a picture
       go (read.Record r) reads =
-          by-test (isJob r)
-          (λ is-job.
-          by-test (ltb mostPixels (r.width * r.height))
-          (λ t. large r is-job (ltb-true mostPixels (r.width * r.height) t))
-          (λ t. small r reads is-job (ltb-false mostPixels (r.width * r.height) t)))
-          (λ t. no-job r (picture ++ extra) t ∙ sym (no-job r picture t))
+          by_test (is_job r)
+          (λ is_job_holds.
+          by_test (ltb most_pixels (r.width * r.height))
+          (λ t. large r is_job_holds (ltb-true most_pixels (r.width * r.height) t))
+          (λ t. small r reads is_job_holds (ltb-false most_pixels (r.width * r.height) t)))
+          (λ t. no_job r (picture ++ extra) t ∙ sym (no_job r picture t))
       go (read.Refused number) reads = refl
 
-  pub run-same : {n n' : ℕ} → n ≡ n'
-      → runDecision n (output job (picture ++ extra)) ≡ runDecision n' (output job picture)
-  run-same = run-alike job (picture ++ extra) picture surplus-ignored
+  pub run_same : {n n' : ℕ} → n ≡ n'
+      → run_decision n (output job (picture ++ extra)) ≡ run_decision n' (output job picture)
+  run_same = run-alike job (picture ++ extra) picture surplus_ignored
 
-  pub ran-same : {old new old' new' : List ℕ} {answer answer' : RunAnswer} → length old ≡ length old'
+  pub ran_same : {old new old' new' : List ℕ} {answer answer' : RunAnswer} → length old ≡ length old'
       → Ran job (picture ++ extra) old new answer → Ran job picture old' new' answer'
       → (answer ≡ answer')
-      × ((xs : List ℕ) → runDecision (length old) (output job (picture ++ extra)) ≡ accepts xs
+      × ((xs : List ℕ) → run_decision (length old) (output job (picture ++ extra)) ≡ accepts xs
       → take (length xs) new ≡ take (length xs) new')
-  ran-same = ran-alike job (picture ++ extra) picture surplus-ignored
+  ran_same = ran_alike job (picture ++ extra) picture surplus_ignored

@@ -3,5 +3,5 @@
 use Rattle.std.specs.Prelude.{ℕ, ◌<◌, List, [], ◌∷◌, length}
 use Rattle.image.specs.Conditions.{Refusal, given}
 
-abbrev pub runConditions : ℕ → List ℕ → List Refusal
-runConditions room printed = given 10 (room < length printed) ∷ []
+abbrev pub run_conditions : ℕ → List ℕ → List Refusal
+run_conditions room printed = given 10 (room < length printed) ∷ []

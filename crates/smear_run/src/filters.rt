@@ -1,9 +1,9 @@
 // The filters of a record on a tight picture of at most `MOST_PIXELS`. Each owns its scratch.
 ghost use Rattle.std.specs.Prelude.{◌≡◌, ◌*◌, length};
-ghost use Rattle.deblur.specs.Settings.{restorationOf, unsharpOf};
-ghost use Rattle.record.specs.Record.{usedIn};
-ghost use Rattle.smear_run.specs.Stage.{recordRestoration, recordUnsharp, lineStage, binomialStage, stage};
-ghost use Rattle.smear_run.specs.Parts.{lineAnswer, binomialAnswer, Filtered};
+ghost use Rattle.deblur.specs.Settings.{restoration_of, unsharp_of};
+ghost use Rattle.record.specs.Record.{used_in};
+ghost use Rattle.smear_run.specs.Stage.{record_restoration, record_unsharp, line_stage, binomial_stage, stage};
+ghost use Rattle.smear_run.specs.Parts.{line_answer, binomial_answer, Filtered};
 
 use crate::whole_job::whole_job;
 use crate::{LINE_SCRATCH, MOST_PIXELS};
@@ -20,7 +20,7 @@ pub(crate) enum FilterAnswer {
 }
 
 fn restoration_config(record: Record, relaxation: f64) -> VanCittertConfig
-    ensures { result ≡ recordRestoration «record» relaxation }
+    ensures { result ≡ record_restoration «record» relaxation }
 {
     let border = record.border;
     VanCittertConfig {
@@ -33,7 +33,7 @@ fn restoration_config(record: Record, relaxation: f64) -> VanCittertConfig
 }
 
 fn unsharp_config(record: Record, gain: f64) -> DirectionalUnsharpConfig
-    ensures { result ≡ recordUnsharp «record» gain }
+    ensures { result ≡ record_unsharp «record» gain }
 {
     let border = record.border;
     DirectionalUnsharpConfig {
@@ -51,7 +51,7 @@ pub(crate) fn used(
     blur_length: u16,
     estimate: f64,
 ) -> Record
-    ensures { result ≡ usedIn «record» direction blur_length estimate }
+    ensures { result ≡ used_in «record» direction blur_length estimate }
 {
     let border = record.border;
     let filter = record.filter;
@@ -70,7 +70,7 @@ pub(crate) fn used(
 
 // A line filter's result has the direction that the lines took.
 fn line_answer(record: Record, answer: RestorationAnswer) -> FilterAnswer
-    ensures { result ≡ lineAnswer «record» answer }
+    ensures { result ≡ line_answer «record» answer }
 {
     match answer {
         RestorationAnswer::Done(metadata) => {
@@ -84,7 +84,7 @@ fn line_answer(record: Record, answer: RestorationAnswer) -> FilterAnswer
 // On the stack: 3,072 i32, 12,288 bytes.
 fn restoration(record: Record, relaxation: f64, picture: &[u8], dst: &mut [u8]) -> FilterAnswer
     requires { length dst.old ≡ «record».width * «record».height }
-    ensures { Filtered (lineStage «record» (restorationOf (recordRestoration «record» relaxation))
+    ensures { Filtered (line_stage «record» (restoration_of (record_restoration «record» relaxation))
         picture.now) «record» dst.old dst.new result }
 {
     let mut scratch = [0i32; LINE_SCRATCH];
@@ -109,7 +109,7 @@ fn restoration(record: Record, relaxation: f64, picture: &[u8], dst: &mut [u8]) 
 // On the stack: 3,072 i32, 12,288 bytes.
 fn unsharp(record: Record, gain: f64, picture: &[u8], dst: &mut [u8]) -> FilterAnswer
     requires { length dst.old ≡ «record».width * «record».height }
-    ensures { Filtered (lineStage «record» (unsharpOf (recordUnsharp «record» gain)) picture.now)
+    ensures { Filtered (line_stage «record» (unsharp_of (record_unsharp «record» gain)) picture.now)
         «record» dst.old dst.new result }
 {
     let mut scratch = [0i32; LINE_SCRATCH];
@@ -133,7 +133,7 @@ fn unsharp(record: Record, gain: f64, picture: &[u8], dst: &mut [u8]) -> FilterA
 
 // The binomial's result is its job.
 fn binomial_answer(record: Record, answer: SharpenAnswer) -> FilterAnswer
-    ensures { result ≡ binomialAnswer «record» answer }
+    ensures { result ≡ binomial_answer «record» answer }
 {
     match answer {
         SharpenAnswer::Done => FilterAnswer::Done(record),
@@ -144,7 +144,7 @@ fn binomial_answer(record: Record, answer: SharpenAnswer) -> FilterAnswer
 // On the stack: 4,096 u16, 8,192 bytes.
 fn binomial(record: Record, picture: &[u8], dst: &mut [u8]) -> FilterAnswer
     requires { length dst.old ≡ «record».width * «record».height }
-    ensures { Filtered (binomialStage «record» picture.now) «record»
+    ensures { Filtered (binomial_stage «record» picture.now) «record»
         dst.old dst.new result }
 {
     let mut scratch = [0u16; MOST_PIXELS];

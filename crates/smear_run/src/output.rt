@@ -1,7 +1,7 @@
 // What the program prints for a record, in the front of a slice.
 ghost use Rattle.std.specs.Prelude.{◌+◌, ◌≤◌, ◌<◌, length};
 ghost use Rattle.smear_run.specs.Stage.{stage};
-ghost use Rattle.smear_run.specs.Output.{printed, jobOutput};
+ghost use Rattle.smear_run.specs.Output.{printed, job_output};
 ghost use Rattle.smear_run.specs.Parts.{Legible, SmallJob, Put};
 
 use crate::filters::{FilterAnswer, filter};
@@ -41,7 +41,7 @@ fn run_short(record: Record, picture: &[u8], n: usize, out: &mut [u8]) -> RunAns
 // What is printed for a record that was read.
 pub(crate) fn run_record(record: Record, picture: &[u8], out: &mut [u8]) -> RunAnswer
     requires { Legible «record» }
-    ensures { Put (jobOutput «record» picture.now) out.old out.new result }
+    ensures { Put (job_output «record» picture.now) out.old out.new result }
 {
     if !record::is_job(record) {
         return put_refusal(13, out);

@@ -1,5 +1,5 @@
 // The texts that the program prints, at the front of a slice; 10 where it has no room for them.
-ghost use Rattle.smear_run.specs.Output.{refusedText, tooLarge};
+ghost use Rattle.smear_run.specs.Output.{refused_text, too_large};
 ghost use Rattle.smear_run.specs.Parts.{Put};
 
 use crate::RunAnswer;
@@ -14,14 +14,14 @@ fn put_text(text: &[u8], out: &mut [u8]) -> RunAnswer
 }
 
 pub(crate) fn put_too_large(out: &mut [u8]) -> RunAnswer
-    ensures { Put tooLarge out.old out.new result }
+    ensures { Put too_large out.old out.new result }
 {
     put_text(b"too large\n", out)
 }
 
 // The number has one digit or two.
 pub(crate) fn put_refusal(number: u8, out: &mut [u8]) -> RunAnswer
-    ensures { Put (refusedText number) out.old out.new result }
+    ensures { Put (refused_text number) out.old out.new result }
 {
     let low = b'0' + number % 10;
     if number < 10 {

@@ -1,6 +1,6 @@
 // The whole job of a record: direction and length from the picture.
 ghost use Rattle.std.specs.Prelude.{◌≡◌, ◌*◌, ◌<◌, length};
-ghost use Rattle.smear_run.specs.Stage.{recordJob, wholeJob, jobResult};
+ghost use Rattle.smear_run.specs.Stage.{record_job, whole_job, job_result};
 ghost use Rattle.smear_run.specs.Parts.{Measured, Filtered};
 
 use crate::filters::{FilterAnswer, used};
@@ -40,7 +40,7 @@ fn restore(
 }
 
 fn job_config(record: Record, relaxation: f64) -> JobConfig
-    ensures { result ≡ recordJob «record» relaxation }
+    ensures { result ≡ record_job «record» relaxation }
 {
     let usual = JobConfig::default();
     let border = record.border;
@@ -57,7 +57,7 @@ fn job_config(record: Record, relaxation: f64) -> JobConfig
 // The record with what was measured.
 fn with_result(record: Record, res: JobResult) -> Record
     requires { res.blur_length < 65536 }
-    ensures { result ≡ jobResult «record» res }
+    ensures { result ≡ job_result «record» res }
 {
     let direction = res.direction;
     used(record, direction, res.blur_length as u16, res.estimate)
@@ -71,7 +71,7 @@ pub(crate) fn whole_job(
     dst: &mut [u8],
 ) -> FilterAnswer
     requires { length dst.old ≡ «record».width * «record».height }
-    ensures { Filtered (wholeJob «record» relaxation picture.now) «record»
+    ensures { Filtered (whole_job «record» relaxation picture.now) «record»
         dst.old dst.new result }
 {
     let mut scratch = [0i32; LINE_SCRATCH];

@@ -6,11 +6,11 @@ use Prim.Native.Nat.{ℕ}
 use lib.ListN.{replicate, take}
 use lib.Seq.{sets}
 use lib.Ieee.{of_bits, mul, lt}
-use Rattle.raster.specs.Direction.{fromAngle}
-use Rattle.record.specs.Bytes.{littleEndian, bytes_of}
+use Rattle.raster.specs.Direction.{from_angle}
+use Rattle.record.specs.Bytes.{little_endian, bytes_of}
 use Rattle.record.specs.Fields.{decoded, legal}
-use Rattle.record.specs.Record.{recordOf, readRecord}
-use Rattle.summary.specs.File.{isFault, isFaultAt, summarized}
+use Rattle.record.specs.Record.{record_of, read_record}
+use Rattle.summary.specs.File.{is_fault, is_fault_at, summarized}
 use Rattle.summary.specs.declared.SummaryAnswer.TheVariants.{Refused}
 
 -- ---- on 5 by 1: a restoration of one iteration with q 65,536, of length 0 the whole job, and a binomial
@@ -25,34 +25,34 @@ binomial = 5 ∷ 0 ∷ 1 ∷ 0 ∷ 0 ∷ 0 ∷ 0 ∷ 3 ∷ replicate 24 0
 
 -- 31 bytes
 short : summarized (take 31 binomial) ≡ Refused 13 0
-unfolding binomial summarized readRecord
+unfolding binomial summarized read_record
 short = refl
 
 -- a last part of one byte
 tail : summarized (binomial ++ 5 ∷ []) ≡ Refused 13 1
-unfolding binomial summarized readRecord decoded legal recordOf littleEndian of_bits lt
+unfolding binomial summarized read_record decoded legal record_of little_endian of_bits lt
 tail = refl
 
 -- the whole job, which reads; a second one behind it does not matter
-whole-job : summarized (binomial ++ restoration 3 ++ restoration 0 ++ restoration 0) ≡ Refused 13 2
-unfolding binomial restoration summarized readRecord decoded legal recordOf littleEndian of_bits lt fromAngle mul
-whole-job = refl
+whole_job : summarized (binomial ++ restoration 3 ++ restoration 0 ++ restoration 0) ≡ Refused 13 2
+unfolding binomial restoration summarized read_record decoded legal record_of little_endian of_bits lt from_angle mul
+whole_job = refl
 
 -- a record that does not read: length 13 is too long for 5 by 1
 too_long : summarized (restoration 13 ++ binomial) ≡ Refused 13 0
-unfolding binomial restoration summarized readRecord decoded legal recordOf littleEndian of_bits lt fromAngle mul
+unfolding binomial restoration summarized read_record decoded legal record_of little_endian of_bits lt from_angle mul
 too_long = refl
 
 -- document 02, K7: the first angle that has no direction
 no-direction :
     summarized (binomial ++ sets (restoration 3) 16 (bytes_of 8 0x7f91_df46_a252_9d39) ++ binomial) ≡ Refused 13 1
-unfolding binomial restoration bytes_of summarized readRecord decoded legal recordOf littleEndian of_bits lt fromAngle mul
+unfolding binomial restoration bytes_of summarized read_record decoded legal record_of little_endian of_bits lt from_angle mul
 no-direction = refl
 
 -- ---- both sides of the limit: index 999,999 is judged by its record, 1,000,000 is a fault
 
-last : (part : List ℕ) → isFaultAt 999999 part ≡ isFault (readRecord part)
+last : (part : List ℕ) → is_fault_at 999999 part ≡ is_fault (read_record part)
 last part = refl
 
-beyond : (part : List ℕ) → isFaultAt 1000000 part ≡ true
+beyond : (part : List ℕ) → is_fault_at 1000000 part ≡ true
 beyond part = refl

@@ -1,4 +1,4 @@
--- The parts of a file, from the front (`parts_next`), and those of records back to back (`parts-joined`).
+-- The parts of a file, from the front (`parts_next`), and those of records back to back (`parts_joined`).
 use mathlib.Core.List.{List, [], ◌∷◌, ◌++◌, flatten}
 use mathlib.Core.Path.{◌≡◌, refl, sym, ap, ◌∙◌}
 use Prim.Native.Nat.{ℕ, zero, suc, ◌+◌, ◌-◌, ◌/◌, ◌<◌, min}
@@ -33,24 +33,24 @@ pub parts_next : (xs : List ℕ) → 0 < length xs → parts xs ≡ take 32 xs �
 unfolding parts_of
 parts_next xs some = rw (count_next (length xs) some, length-drop 32 xs) refl
 
-parts-of-length : (n : ℕ) (xs : List ℕ) → length (parts_of n xs) ≡ n
+parts_of_length : (n : ℕ) (xs : List ℕ) → length (parts_of n xs) ≡ n
 unfolding parts_of
-parts-of-length zero xs = refl
-parts-of-length (suc n) xs = ap suc (parts-of-length n (drop 32 xs))
+parts_of_length zero xs = refl
+parts_of_length (suc n) xs = ap suc (parts_of_length n (drop 32 xs))
 
-pub parts-length : (xs : List ℕ) → length (parts xs) ≡ (length xs + 31) / 32
-parts-length xs = parts-of-length ((length xs + 31) / 32) xs
+pub parts_length : (xs : List ℕ) → length (parts xs) ≡ (length xs + 31) / 32
+parts_length xs = parts_of_length ((length xs + 31) / 32) xs
 
-pub parts-some : (xs : List ℕ) → 0 < length xs → 0 < length (parts xs)
-parts-some xs some = rw (parts-length xs) (omega arith)
+pub parts_some : (xs : List ℕ) → 0 < length xs → 0 < length (parts xs)
+parts_some xs some = rw (parts_length xs) (omega arith)
 
 -- ---- records back to back
 
-pub parts-joined : (ps : List (List ℕ)) → All Whole ps → parts (flatten ps) ≡ ps
+pub parts_joined : (ps : List (List ℕ)) → All Whole ps → parts (flatten ps) ≡ ps
 unfolding parts_of flatten
-parts-joined [] w = refl
-parts-joined (p ∷ ps) w =
+parts_joined [] w = refl
+parts_joined (p ∷ ps) w =
     let n = length-append p (flatten ps) in
     parts_next (p ++ flatten ps) (omega (arith, n, w.0))
     ∙ rw (take_at p (flatten ps) 32 w.0, drop_at p (flatten ps) 32 w.0)
-    (ap (λ (qs : List (List ℕ)). p ∷ qs) (parts-joined ps w.1))
+    (ap (λ (qs : List (List ℕ)). p ∷ qs) (parts_joined ps w.1))

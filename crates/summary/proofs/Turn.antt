@@ -1,5 +1,5 @@
--- A turn of the loop over a file: the part from a byte on is counted (`turn-counted`), or it is a fault
--- (`turn-refused`); behind the last byte there is nothing to add (`turns-end`).
+-- A turn of the loop over a file: the part from a byte on is counted (`turn_counted`), or it is a fault
+-- (`turn_refused`); behind the last byte there is nothing to add (`turns_end`).
 use mathlib.Core.List.{List, ◌∷◌}
 use mathlib.Core.Path.{◌≡◌, refl, sym, ◌∙◌}
 use Prim.Native.Nat.{ℕ, ◌+◌, ◌-◌, ◌≤◌, ◌<◌, min}
@@ -7,16 +7,16 @@ use native.Mathlib.Omega.{arith}
 use lib.ListN.{length, take, drop, length-drop}
 use lib.Seq.{drop-drop}
 use Rattle.summary.specs.File.{parts}
-use Rattle.summary.specs.Tally.{addedPart, addedParts}
+use Rattle.summary.specs.Tally.{added_part, added_parts}
 use Rattle.summary.specs.declared.kernel.Tally.{Tally}
 use Rattle.summary.specs.declared.kernel.TallyAnswer.{TallyAnswer}
 use Rattle.summary.specs.declared.kernel.TallyAnswer.TheVariants as answer
 use Rattle.summary.proofs.Parts.{take_min, drop_min, parts_none, parts_next}
 
 module _ (xs : List ℕ) (t : Tally) (at : ℕ) where
-  pub turns-end : length xs ≤ at → answer.Tally t ≡ addedParts t (parts (drop at xs))
-  unfolding addedParts
-  turns-end h = rw (parts_none (drop at xs) (length-drop at xs ∙ (omega (arith, h)))) refl
+  pub turns_end : length xs ≤ at → answer.Tally t ≡ added_parts t (parts (drop at xs))
+  unfolding added_parts
+  turns_end h = rw (parts_none (drop at xs) (length-drop at xs ∙ (omega (arith, h)))) refl
 
   module _ {k : ℕ} (some : at < length xs) (k-is : k ≡ min 32 (length xs - at)) where
     -- what is lent is the next part
@@ -32,13 +32,13 @@ module _ (xs : List ℕ) (t : Tally) (at : ℕ) where
         sym (drop_min 32 (drop at xs)) ∙ rw (left, sym k-is) (drop-drop k at xs) in
         parts_next (drop at xs) (omega (arith, left, some)) ∙ rw rest refl
 
-    module _ {z : TallyAnswer} (is : z ≡ addedPart t (take (at + k - at) (drop at xs))) where
-      pub turn-counted : {u : Tally} → z ≡ answer.Tally u
-          → addedParts u (parts (drop (at + k) xs)) ≡ addedParts t (parts (drop at xs))
-      unfolding addedParts
-      turn-counted e = let l = rw next-part at is in rw (next-parts, sym l, e) refl
+    module _ {z : TallyAnswer} (is : z ≡ added_part t (take (at + k - at) (drop at xs))) where
+      pub turn_counted : {u : Tally} → z ≡ answer.Tally u
+          → added_parts u (parts (drop (at + k) xs)) ≡ added_parts t (parts (drop at xs))
+      unfolding added_parts
+      turn_counted e = let l = rw next-part at is in rw (next-parts, sym l, e) refl
 
-      pub turn-refused : {number i : ℕ} → z ≡ answer.Refused number i
-          → answer.Refused number i ≡ addedParts t (parts (drop at xs))
-      unfolding addedParts
-      turn-refused e = let l = rw next-part at is in rw (next-parts, sym l, e) refl
+      pub turn_refused : {number i : ℕ} → z ≡ answer.Refused number i
+          → answer.Refused number i ≡ added_parts t (parts (drop at xs))
+      unfolding added_parts
+      turn_refused e = let l = rw next-part at is in rw (next-parts, sym l, e) refl

@@ -6,9 +6,9 @@ use Rattle.summary.specs.declared.SummaryAnswer.{SummaryAnswer}
 use Rattle.summary.specs.declared.SummaryAnswer.TheVariants.{Summary, Refused}
 
 -- 0, or the refusal's number
-abbrev pub summaryNumber : SummaryAnswer → ℕ
-summaryNumber (Summary s) = 0
-summaryNumber (Refused number i) = number
+abbrev pub summary_number : SummaryAnswer → ℕ
+summary_number (Summary s) = 0
+summary_number (Refused number i) = number
 
-abbrev pub summaryConditions : List ℕ → List Refusal
-summaryConditions xs = given 13 ((i : ℕ) × FaultAt xs i) ∷ []
+abbrev pub summary_conditions : List ℕ → List Refusal
+summary_conditions xs = given 13 ((i : ℕ) × FaultAt xs i) ∷ []

@@ -1,10 +1,10 @@
 -- Document 02, K1: the parts of a file, the first fault among them, and the answer.
 use Rattle.std.specs.Prelude.{Bool, true, false, ◌&&◌, ◌||◌, cond, List, [], ◌∷◌, ℕ, zero, suc, ◌+◌, ◌/◌, ◌<◌, ◌≡◌, leb, eqb, length, take, drop, get_or}
-use Rattle.record.specs.Record.{readRecord}
+use Rattle.record.specs.Record.{read_record}
 use Rattle.record.specs.declared.Record.{Record}
 use Rattle.record.specs.declared.ReadAnswer.{ReadAnswer}
 use Rattle.record.specs.declared.ReadAnswer.TheVariants as read
-use Rattle.summary.specs.Sheet.{is_line, tally_of, sheetOf}
+use Rattle.summary.specs.Sheet.{is_line, tally_of, sheet_of}
 use Rattle.summary.specs.declared.SummaryAnswer.{SummaryAnswer}
 use Rattle.summary.specs.declared.SummaryAnswer.TheVariants.{Summary, Refused}
 
@@ -20,41 +20,41 @@ parts xs = parts_of ((length xs + 31) / 32) xs
 -- ---- "A record that doesn't read, one of length 0 with filter 1 or 2, or a last part under 32 bytes" (which does not
 -- read either)
 
-abbrev pub lacksLength : Record → Bool
-lacksLength r = is_line r && eqb r.blur_length 0
+abbrev pub lacks_length : Record → Bool
+lacks_length r = is_line r && eqb r.blur_length 0
 
-abbrev pub isFault : ReadAnswer → Bool
-isFault (read.Record r) = lacksLength r
-isFault (read.Refused number) = true
+abbrev pub is_fault : ReadAnswer → Bool
+is_fault (read.Record r) = lacks_length r
+is_fault (read.Refused number) = true
 
 -- "so does any record of index 1,000,000"; those behind it are never the first
-abbrev pub maxRecords : ℕ
-maxRecords = 1000000
+abbrev pub max_records : ℕ
+max_records = 1000000
 
-abbrev pub isFaultAt : ℕ → List ℕ → Bool
-isFaultAt i part = leb maxRecords i || isFault (readRecord part)
+abbrev pub is_fault_at : ℕ → List ℕ → Bool
+is_fault_at i part = leb max_records i || is_fault (read_record part)
 
 -- "the index of the first such, counted from 0": of parts that begin at index i, and the index behind them for none
-unfoldable pub firstFault : ℕ → List (List ℕ) → ℕ
-firstFault i [] = i
-firstFault i (p ∷ ps) = cond (isFaultAt i p) i (firstFault (suc i) ps)
+unfoldable pub first_fault : ℕ → List (List ℕ) → ℕ
+first_fault i [] = i
+first_fault i (p ∷ ps) = cond (is_fault_at i p) i (first_fault (suc i) ps)
 
 -- ---- the answer
 
-abbrev pub withRecord : ReadAnswer → List Record → List Record
-withRecord (read.Record r) rs = r ∷ rs
-withRecord (read.Refused number) rs = rs
+abbrev pub with_record : ReadAnswer → List Record → List Record
+with_record (read.Record r) rs = r ∷ rs
+with_record (read.Refused number) rs = rs
 
-abbrev pub recordsIn : List (List ℕ) → List Record
-recordsIn [] = []
-recordsIn (p ∷ ps) = withRecord (readRecord p) (recordsIn ps)
+abbrev pub records_in : List (List ℕ) → List Record
+records_in [] = []
+records_in (p ∷ ps) = with_record (read_record p) (records_in ps)
 
 -- "stops with 13 and the index of the first such, .. and no sheet"
 unfoldable pub summarized : List ℕ → SummaryAnswer
-unfolding parts_of firstFault
+unfolding parts_of first_fault
 summarized xs =
-    let i = firstFault 0 (parts xs) in
-    cond (eqb i (length (parts xs))) (Summary (sheetOf (tally_of (recordsIn (parts xs))))) (Refused 13 i)
+    let i = first_fault 0 (parts xs) in
+    cond (eqb i (length (parts xs))) (Summary (sheet_of (tally_of (records_in (parts xs))))) (Refused 13 i)
 
 -- ---- what is said of faults
 
@@ -65,12 +65,12 @@ part_at xs i = get_or (parts xs) i []
 -- index i is that of a part, and the part is a fault
 pub record FaultAt (xs : List ℕ) (i : ℕ) : Type 0 where
   pub within : i < length (parts xs)
-  pub faulty : isFaultAt i (part_at xs i) ≡ true
+  pub faulty : is_fault_at i (part_at xs i) ≡ true
 
 -- .. and no part before it is one
 pub record FirstFault (xs : List ℕ) (i : ℕ) : Type 0 where
   pub fault : FaultAt xs i
-  pub before : (j : ℕ) → j < i → isFaultAt j (part_at xs j) ≡ false
+  pub before : (j : ℕ) → j < i → is_fault_at j (part_at xs j) ≡ false
 
 -- ---- parts that are whole, for "reordering the records leaves it equal"
 

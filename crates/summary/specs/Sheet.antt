@@ -1,9 +1,9 @@
 -- Document 02, K1, "Round sheet of smears": what a sheet says of records.
 use Rattle.std.specs.Prelude.{Bool, ◌&&◌, cond, List, [], ◌∷◌, ℕ, suc, ◌+◌, ◌/◌, ◌%◌, max, leb, eqb, length}
-use Rattle.raster.specs.Direction.{directionIndex}
+use Rattle.raster.specs.Direction.{direction_index}
 use Rattle.raster.specs.declared.direction.RasterDirection4.{RasterDirection4}
 use Rattle.raster.specs.declared.direction.RasterDirection4.TheVariants.{Horizontal, DownRight, Vertical, DownLeft}
-use Rattle.record.specs.Record.{filterCode}
+use Rattle.record.specs.Record.{filter_code}
 use Rattle.record.specs.declared.Record.{Record}
 use Rattle.summary.specs.declared.DirectionSummary.{DirectionSummary}
 use Rattle.summary.specs.declared.RecordSummary.{RecordSummary}
@@ -14,16 +14,16 @@ use Rattle.summary.specs.declared.kernel.Tally.{Tally}
 
 -- filters 1 and 2
 abbrev pub is_line : Record → Bool
-is_line r = leb (filterCode r.filter) 2
+is_line r = leb (filter_code r.filter) 2
 
 -- a binomial has direction 0 and lies along none
-abbrev pub isAlong : RasterDirection4 → Record → Bool
-isAlong d r = is_line r && eqb (directionIndex r.direction) (directionIndex d)
+abbrev pub is_along : RasterDirection4 → Record → Bool
+is_along d r = is_line r && eqb (direction_index r.direction) (direction_index d)
 
 -- the blur lengths along a direction, in the records' order
-abbrev pub lengthsAlong : RasterDirection4 → List Record → List ℕ
-lengthsAlong d [] = []
-lengthsAlong d (r ∷ rs) = cond (isAlong d r) (r.blur_length ∷ lengthsAlong d rs) (lengthsAlong d rs)
+abbrev pub lengths_along : RasterDirection4 → List Record → List ℕ
+lengths_along d [] = []
+lengths_along d (r ∷ rs) = cond (is_along d r) (r.blur_length ∷ lengths_along d rs) (lengths_along d rs)
 
 -- ---- "the total and the largest blur length, and the mean as whole part and remainder over the count (all of these 0
 -- for an empty direction)"
@@ -32,15 +32,15 @@ abbrev pub total_of : List ℕ → ℕ
 total_of [] = 0
 total_of (n ∷ ns) = n + total_of ns
 
-abbrev pub largestOf : List ℕ → ℕ
-largestOf [] = 0
-largestOf (n ∷ ns) = max n (largestOf ns)
+abbrev pub largest_of : List ℕ → ℕ
+largest_of [] = 0
+largest_of (n ∷ ns) = max n (largest_of ns)
 
-abbrev pub lengthsOf : List ℕ → Lengths
-lengthsOf ns = record { count = length ns; total = total_of ns; largest = largestOf ns }
+abbrev pub lengths_of : List ℕ → Lengths
+lengths_of ns = record { count = length ns; total = total_of ns; largest = largest_of ns }
 
-abbrev pub withMean : Lengths → DirectionSummary
-withMean l = record {
+abbrev pub with_mean : Lengths → DirectionSummary
+with_mean l = record {
   count = l.count;
   total = l.total;
   largest = l.largest;
@@ -51,31 +51,31 @@ withMean l = record {
 -- ---- "Binomial records are counted separately."
 
 -- filter 3
-abbrev pub isBinomial : Record → Bool
-isBinomial r = eqb (filterCode r.filter) 3
+abbrev pub is_binomial : Record → Bool
+is_binomial r = eqb (filter_code r.filter) 3
 
-abbrev pub binomialsIn : List Record → ℕ
-binomialsIn [] = 0
-binomialsIn (r ∷ rs) = cond (isBinomial r) (suc (binomialsIn rs)) (binomialsIn rs)
+abbrev pub binomials_in : List Record → ℕ
+binomials_in [] = 0
+binomials_in (r ∷ rs) = cond (is_binomial r) (suc (binomials_in rs)) (binomials_in rs)
 
 -- ---- the sheet: what is counted, with the means
 
 abbrev pub tally_of : List Record → Tally
 tally_of rs = record {
   records = length rs;
-  horizontal = lengthsOf (lengthsAlong Horizontal rs);
-  down_right = lengthsOf (lengthsAlong DownRight rs);
-  vertical = lengthsOf (lengthsAlong Vertical rs);
-  down_left = lengthsOf (lengthsAlong DownLeft rs);
-  binomials = binomialsIn rs;
+  horizontal = lengths_of (lengths_along Horizontal rs);
+  down_right = lengths_of (lengths_along DownRight rs);
+  vertical = lengths_of (lengths_along Vertical rs);
+  down_left = lengths_of (lengths_along DownLeft rs);
+  binomials = binomials_in rs;
 }
 
-abbrev pub sheetOf : Tally → RecordSummary
-sheetOf t = record {
-  horizontal = withMean t.horizontal;
-  down_right = withMean t.down_right;
-  vertical = withMean t.vertical;
-  down_left = withMean t.down_left;
+abbrev pub sheet_of : Tally → RecordSummary
+sheet_of t = record {
+  horizontal = with_mean t.horizontal;
+  down_right = with_mean t.down_right;
+  vertical = with_mean t.vertical;
+  down_left = with_mean t.down_left;
   binomials = t.binomials;
 }
 

@@ -1,8 +1,8 @@
 // The fold behind the sheet. Its state is public, so that a file can be read part by part.
 ghost use Rattle.std.specs.Prelude.{[], ◌≡◌, ◌<◌, ◌≤◌};
-ghost use Rattle.summary.specs.Sheet.{is_line, isAlong, isBinomial, withMean, tally_of, sheetOf};
-ghost use Rattle.summary.specs.File.{maxRecords, lacksLength, parts};
-ghost use Rattle.summary.specs.Tally.{addedLength, addedAlong, addedBinomial, added, addedPart, addedParts};
+ghost use Rattle.summary.specs.Sheet.{is_line, is_along, is_binomial, with_mean, tally_of, sheet_of};
+ghost use Rattle.summary.specs.File.{max_records, lacks_length, parts};
+ghost use Rattle.summary.specs.Tally.{added_length, added_along, added_binomial, added, added_part, added_parts};
 ghost use Rattle.summary.specs.Tally.{HeldLengths, Held};
 
 use crate::{DirectionSummary, RecordSummary};
@@ -45,7 +45,7 @@ fn is_line(record: Record) -> bool
 }
 
 fn is_along(direction: RasterDirection4, record: Record) -> bool
-    ensures { result ≡ isAlong direction «record» }
+    ensures { result ≡ is_along direction «record» }
 {
     let other = record.direction;
     is_line(record) & (other.index() == direction.index())
@@ -53,21 +53,21 @@ fn is_along(direction: RasterDirection4, record: Record) -> bool
 
 // A record of a line filter that has no length reads, and is a fault on a sheet.
 fn lacks_length(record: Record) -> bool
-    ensures { result ≡ lacksLength «record» }
+    ensures { result ≡ lacks_length «record» }
 {
     is_line(record) & (record.blur_length == 0)
 }
 
 fn is_binomial(record: Record) -> bool
-    ensures { result ≡ isBinomial «record» }
+    ensures { result ≡ is_binomial «record» }
 {
     let filter = record.filter;
     filter.code() == 3
 }
 
 fn added_binomial(binomials: u64, record: Record) -> u64
-    requires { binomials ≤ maxRecords }
-    ensures { result ≡ addedBinomial «record» binomials }
+    requires { binomials ≤ max_records }
+    ensures { result ≡ added_binomial «record» binomials }
 {
     if is_binomial(record) {
         return binomials + 1;
@@ -77,8 +77,8 @@ fn added_binomial(binomials: u64, record: Record) -> u64
 
 impl Lengths {
     fn added(self, blur_length: u16) -> Lengths
-        requires { HeldLengths maxRecords self }
-        ensures { result ≡ addedLength blur_length self }
+        requires { HeldLengths max_records self }
+        ensures { result ≡ added_length blur_length self }
     {
         Lengths {
             count: self.count + 1,
@@ -89,8 +89,8 @@ impl Lengths {
 
     // With the record's length, where it lies along the direction.
     fn added_along(self, direction: RasterDirection4, record: Record) -> Lengths
-        requires { HeldLengths maxRecords self }
-        ensures { result ≡ addedAlong direction «record» self }
+        requires { HeldLengths max_records self }
+        ensures { result ≡ added_along direction «record» self }
     {
         if is_along(direction, record) {
             return self.added(record.blur_length);
@@ -99,7 +99,7 @@ impl Lengths {
     }
 
     fn with_mean(self) -> DirectionSummary
-        ensures { result ≡ withMean self }
+        ensures { result ≡ with_mean self }
     {
         let mut mean = 0;
         let mut remainder = 0;
@@ -140,7 +140,7 @@ impl Tally {
     }
 
     fn added(self, record: Record) -> Tally
-        requires { Held self × (self.records < maxRecords) }
+        requires { Held self × (self.records < max_records) }
         ensures { result ≡ added self «record» }
     {
         let horizontal = self.horizontal;
@@ -160,7 +160,7 @@ impl Tally {
     // With one more part of a file: a record, if it is one.
     fn add(self, part: &[u8]) -> TallyAnswer
         requires { Held self }
-        ensures { result ≡ addedPart self part.now }
+        ensures { result ≡ added_part self part.now }
     {
         if Tally::MAX_RECORDS <= self.records {
             return TallyAnswer::Refused(13, self.records);
@@ -179,7 +179,7 @@ impl Tally {
     // With the records of a file's next bytes, back to back.
     pub fn add_all(self, records: &[u8]) -> TallyAnswer
         requires { Held self }
-        ensures { result ≡ addedParts self (parts records.now) }
+        ensures { result ≡ added_parts self (parts records.now) }
     {
         let mut tally = self;
         let mut at: usize = 0;
@@ -197,7 +197,7 @@ impl Tally {
     }
 
     pub fn sheet(self) -> RecordSummary
-        ensures { result ≡ sheetOf self }
+        ensures { result ≡ sheet_of self }
     {
         let horizontal = self.horizontal;
         let down_right = self.down_right;

@@ -1,4 +1,4 @@
--- Every swing, of whatever lines, has a width above zero (`picture-above`).
+-- Every swing, of whatever lines, has a width above zero (`picture_above`).
 use Prim.Native.Nat.{ℕ, zero, suc, ◌-◌, ◌≤◌, max}
 use native.Mathlib.Omega.{arith}
 use mathlib.Core.Path.{◌≡◌, refl}
@@ -11,60 +11,60 @@ use lib.Ieee.Fits.{add-fits, sub-fits, mul-fits}
 use lib.Ieee.Positive.{positive}
 use Rattle.raster.specs.declared.direction.RasterDirection4.{RasterDirection4}
 use Rattle.raster.specs.declared.direction.RasterDirection4.TheVariants.{Horizontal, DownRight, Vertical, DownLeft}
-use Rattle.raster.specs.Lines.{lineLength}
+use Rattle.raster.specs.Lines.{line_length}
 use Rattle.swings.specs.declared.Swing.{Swing}
 use Rattle.swings.specs.declared.rises.Mark.{Mark}
 use Rattle.swings.specs.declared.rises.Mark.TheVariants.{At, Unset}
 use Rattle.swings.specs.declared.rises.Rise.TheVariants as rise
-use Rattle.swings.specs.Line.{first_lines, stepPixels}
-use Rattle.swings.specs.Rise.{double, swingOf, levelOf, crossedAt, placeAt, crossing_of, low_part, high_part}
-use Rattle.swings.specs.Rise.{riseBetween, riseOf}
-use Rattle.swings.specs.Swings.{scaledBy, swingsFrom}
+use Rattle.swings.specs.Line.{first_lines, step_pixels}
+use Rattle.swings.specs.Rise.{double, swing_of, level_of, crossed_at, place_at, crossing_of, low_part, high_part}
+use Rattle.swings.specs.Rise.{rise_between, rise_of}
+use Rattle.swings.specs.Swings.{scaled_by, swings_from}
 use Rattle.walks.specs.Each.{Each}
 use Rattle.numbers.proofs.Test.{cond_both}
 use Rattle.floats.proofs.Rounded.{Bounded, AtLeastOne}
-use Rattle.floats.proofs.AboveZero.{AboveZero, above-sub, above-mul}
-use Rattle.swings.proofs.EachSwing.{RiseIs, rise-map, picture-each}
+use Rattle.floats.proofs.AboveZero.{AboveZero, above_sub, above_mul}
+use Rattle.swings.proofs.EachSwing.{RiseIs, rise_map, picture_each}
 
 -- ---- rises
 abbrev MarkFits : Mark → Type 0
 MarkFits Unset = Unit {0}
 MarkFits (At p) = T (fits binary64 p)
 
-place-fits : (i : ℕ) (level v0 v1 : Float) → T (fits binary64 (placeAt i level v0 v1))
-unfolding placeAt
-place-fits i level v0 v1 = add-fits binary64 (of_int binary64 (pos i)) _
+place_fits : (i : ℕ) (level v0 v1 : Float) → T (fits binary64 (place_at i level v0 v1))
+unfolding place_at
+place_fits i level v0 v1 = add-fits binary64 (of_int binary64 (pos i)) _
 
-crossing-fits : (x : ℕ → ℕ) (rising : Bool) (level : Float) (i k : ℕ) → MarkFits (crossing_of x rising level i k)
+crossing_fits : (x : ℕ → ℕ) (rising : Bool) (level : Float) (i k : ℕ) → MarkFits (crossing_of x rising level i k)
 unfolding crossing_of
-crossing-fits x rising level i zero = tt
-crossing-fits x rising level i (suc k) =
-    cond_both MarkFits (crossedAt rising level (double x i) (double x (suc i)))
-    (At (placeAt i level (double x i) (double x (suc i)))) (crossing_of x rising level (suc i) k)
-    (place-fits i level (double x i) (double x (suc i))) (crossing-fits x rising level (suc i) k)
+crossing_fits x rising level i zero = tt
+crossing_fits x rising level i (suc k) =
+    cond_both MarkFits (crossed_at rising level (double x i) (double x (suc i)))
+    (At (place_at i level (double x i) (double x (suc i)))) (crossing_of x rising level (suc i) k)
+    (place_fits i level (double x i) (double x (suc i))) (crossing_fits x rising level (suc i) k)
 
 abbrev Wide : Swing → Type 0
 Wide s = AboveZero s.width
 
-between-above : (low high : Mark) (size : ℕ) → MarkFits low → MarkFits high → RiseIs Wide (riseBetween low high size)
-unfolding riseBetween
-between-above Unset high size h k = tt
-between-above (At p0) Unset size h k = tt
-between-above (At p0) (At p1) size h k = go (lt p0 p1) refl
+between_above : (low high : Mark) (size : ℕ) → MarkFits low → MarkFits high → RiseIs Wide (rise_between low high size)
+unfolding rise_between
+between_above Unset high size h k = tt
+between_above (At p0) Unset size h k = tt
+between_above (At p0) (At p1) size h k = go (lt p0 p1) refl
   where
     go : (t : Bool) → lt p0 p1 ≡ t
         → RiseIs Wide (cond t (rise.Found (record { width = sub binary64 p1 p0; swing = pos size })) rise.Nothing)
-    go true e = record { above = above-sub p1 p0 k h e; holds = sub-fits binary64 p1 p0 }
+    go true e = record { above = above_sub p1 p0 k h e; holds = sub-fits binary64 p1 p0 }
     go false e = tt
 
-rise-above : (least : ℕ) (x : ℕ → ℕ) (a b : ℕ) → RiseIs Wide (riseOf least x a b)
-unfolding riseOf
-rise-above least x a b =
-    cond_both (RiseIs Wide) (ltb (swingOf (x a) (x b)) least) rise.Nothing _ tt
-    (between-above (crossing_of x (ltb (x a) (x b)) (levelOf (x a) (x b) low_part) a (b - a))
-    (crossing_of x (ltb (x a) (x b)) (levelOf (x a) (x b) high_part) a (b - a)) (swingOf (x a) (x b))
-    (crossing-fits x (ltb (x a) (x b)) (levelOf (x a) (x b) low_part) a (b - a))
-    (crossing-fits x (ltb (x a) (x b)) (levelOf (x a) (x b) high_part) a (b - a)))
+rise_above : (least : ℕ) (x : ℕ → ℕ) (a b : ℕ) → RiseIs Wide (rise_of least x a b)
+unfolding rise_of
+rise_above least x a b =
+    cond_both (RiseIs Wide) (ltb (swing_of (x a) (x b)) least) rise.Nothing _ tt
+    (between_above (crossing_of x (ltb (x a) (x b)) (level_of (x a) (x b) low_part) a (b - a))
+    (crossing_of x (ltb (x a) (x b)) (level_of (x a) (x b) high_part) a (b - a)) (swing_of (x a) (x b))
+    (crossing_fits x (ltb (x a) (x b)) (level_of (x a) (x b) low_part) a (b - a))
+    (crossing_fits x (ltb (x a) (x b)) (level_of (x a) (x b) high_part) a (b - a)))
 
 -- ---- the length of a direction's steps
 pub record Pixel (p : Float) : Type 0 where
@@ -72,38 +72,38 @@ pub record Pixel (p : Float) : Type 0 where
   pub big : AtLeastOne p
   pub small : Bounded 2 p
 
-pixel-one : Pixel (of_bits binary64 0x3FF0_0000_0000_0000)
+pixel_one : Pixel (of_bits binary64 0x3FF0_0000_0000_0000)
 unfolding of_bits
-pixel-one = record { above = tt; big = lit≤ tt; small = lit≤ tt }
+pixel_one = record { above = tt; big = lit≤ tt; small = lit≤ tt }
 
-pixel-diagonal : Pixel (of_bits binary64 0x3FF6_A09E_667F_3BCD)
+pixel_diagonal : Pixel (of_bits binary64 0x3FF6_A09E_667F_3BCD)
 unfolding of_bits
-pixel-diagonal = record { above = tt; big = lit≤ tt; small = lit≤ tt }
+pixel_diagonal = record { above = tt; big = lit≤ tt; small = lit≤ tt }
 
-pub pixel-is : (d : RasterDirection4) → Pixel (stepPixels d)
-pixel-is Horizontal = pixel-one
-pixel-is DownRight = pixel-diagonal
-pixel-is Vertical = pixel-one
-pixel-is DownLeft = pixel-diagonal
+pub pixel_is : (d : RasterDirection4) → Pixel (step_pixels d)
+pixel_is Horizontal = pixel_one
+pixel_is DownRight = pixel_diagonal
+pixel_is Vertical = pixel_one
+pixel_is DownLeft = pixel_diagonal
 
 -- ---- all swings of lines
-pub line-short : (d : RasterDirection4) (w h k : ℕ) → lineLength d w h k ≤ max w h
-line-short Horizontal w h k = omega arith
-line-short DownRight w h k = omega arith
-line-short Vertical w h k = omega arith
-line-short DownLeft w h k = omega arith
+pub line_short : (d : RasterDirection4) (w h k : ℕ) → line_length d w h k ≤ max w h
+line_short Horizontal w h k = omega arith
+line_short DownRight w h k = omega arith
+line_short Vertical w h k = omega arith
+line_short DownLeft w h k = omega arith
 
-pub picture-above : (least count : ℕ) (bytes : List ℕ) (d : RasterDirection4) (w h stride k a j : ℕ)
+pub picture_above : (least count : ℕ) (bytes : List ℕ) (d : RasterDirection4) (w h stride k a j : ℕ)
     → Each (λ (s : Swing). AboveZero s.width)
-    (swingsFrom least (stepPixels d) (first_lines count bytes d w h stride) k a j)
-picture-above least count bytes d w h stride =
-    picture-each least (stepPixels d) (max w h) Wide (λ (x : ℕ → ℕ). Unit {0})
+    (swings_from least (step_pixels d) (first_lines count bytes d w h stride) k a j)
+picture_above least count bytes d w h stride =
+    picture_each least (step_pixels d) (max w h) Wide (λ (x : ℕ → ℕ). Unit {0})
     (λ x is a b _ _.
-    rise-map Wide (λ (s : Swing). Wide (scaledBy (stepPixels d) s))
+    rise_map Wide (λ (s : Swing). Wide (scaled_by (step_pixels d) s))
     (λ s e. record {
-      above = above-mul s.width (stepPixels d) e (pixel-is d).above (pixel-is d).big;
+      above = above_mul s.width (step_pixels d) e (pixel_is d).above (pixel_is d).big;
       holds =
-          mul-fits binary64 s.width (stepPixels d);
+          mul-fits binary64 s.width (step_pixels d);
     })
-    (riseOf least x a b) (rise-above least x a b))
-    (first_lines count bytes d w h stride) (λ k. tt) (λ k. omega (arith, line-short d w h k))
+    (rise_of least x a b) (rise_above least x a b))
+    (first_lines count bytes d w h stride) (λ k. tt) (λ k. omega (arith, line_short d w h k))

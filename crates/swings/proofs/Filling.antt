@@ -12,14 +12,14 @@ use Rattle.swings.specs.declared.scan.Scan.{Scan}
 use Rattle.swings.specs.declared.scan.Span.{Span}
 use Rattle.swings.specs.declared.scan.Scanned.{Scanned}
 use Rattle.swings.specs.Swings.{larger, strongest}
-use Rattle.swings.specs.Scan.{Open, rest, begun, widenedBy, spanFrom, span_of, Bytes, Scans, Filled}
-use Rattle.swings.proofs.Strongest.{strongest-snoc}
+use Rattle.swings.specs.Scan.{Open, rest, begun, widened_by, span_from, span_of, Bytes, Scans, Filled}
+use Rattle.swings.proofs.Strongest.{strongest_snoc}
 
 -- one width more: the list so far has its span, and `widened` takes in the next
-span-snoc : (span : Span) (l : List Swing) (s : Swing)
-    → spanFrom span (l ++ (s ∷ [])) ≡ widenedBy (spanFrom span l) s.width
-span-snoc span [] s = refl
-span-snoc span (t ∷ l) s = span-snoc (widenedBy span t.width) l s
+span_snoc : (span : Span) (l : List Swing) (s : Swing)
+    → span_from span (l ++ (s ∷ [])) ≡ widened_by (span_from span l) s.width
+span_snoc span [] s = refl
+span_snoc span (t ∷ l) s = span_snoc (widened_by span t.width) l s
 
 -- ---- one element more at the front of a list
 module _ {X : Type 0} where
@@ -117,24 +117,24 @@ module _ (Real : Scanned → Type 0) (bytes : List ℕ) (c : ScanPlan) (ys : Lis
           unfolding length
           one_more = length-append t.past (r.swing ∷ [])
 
-          pub whole-after : (b : Bool) → r.found ≡ b → longer b ++ rest bytes c r.next ≡ all
-          whole-after true e = append_assoc t.past (r.swing ∷ []) (rest bytes c r.next)
+          pub whole_after : (b : Bool) → r.found ≡ b → longer b ++ rest bytes c r.next ≡ all
+          whole_after true e = append_assoc t.past (r.swing ∷ []) (rest bytes c r.next)
               ∙ ap (λ (l : List Swing). t.past ++ l) (sym (says.goes e).list) ∙ t.whole
-          whole-after false e = ap (λ (s : Scan). t.past ++ rest bytes c s) (says.stops e).same ∙ t.whole
+          whole_after false e = ap (λ (s : Scan). t.past ++ rest bytes c s) (says.stops e).same ∙ t.whole
 
-          pub counted-after : (b : Bool) → r.found ≡ b → r.next.count ≡ length (longer b)
-          counted-after true e = omega (arith, (says.goes e).count, t.counted, one_more)
-          counted-after false e = ap (λ (s : Scan). s.count) (says.stops e).same ∙ t.counted
+          pub counted_after : (b : Bool) → r.found ≡ b → r.next.count ≡ length (longer b)
+          counted_after true e = omega (arith, (says.goes e).count, t.counted, one_more)
+          counted_after false e = ap (λ (s : Scan). s.count) (says.stops e).same ∙ t.counted
 
-          pub top-after : (b : Bool) → r.found ≡ b → r.next.strongest ≡ strongest (longer b)
-          top-after true e = (says.goes e).top ∙ ap (λ z. larger z r.swing.swing) t.top
-              ∙ sym (strongest-snoc t.past r.swing)
-          top-after false e = ap (λ (s : Scan). s.strongest) (says.stops e).same ∙ t.top
+          pub top_after : (b : Bool) → r.found ≡ b → r.next.strongest ≡ strongest (longer b)
+          top_after true e = (says.goes e).top ∙ ap (λ z. larger z r.swing.swing) t.top
+              ∙ sym (strongest_snoc t.past r.swing)
+          top_after false e = ap (λ (s : Scan). s.strongest) (says.stops e).same ∙ t.top
 
-          pub span-after : (b : Bool) → r.found ≡ b → r.next.span ≡ span_of (longer b)
-          span-after true e = (says.goes e).span ∙ ap (λ z. widenedBy z r.swing.width) t.span
-              ∙ sym (span-snoc (span_of []) t.past r.swing)
-          span-after false e = ap (λ (s : Scan). s.span) (says.stops e).same ∙ t.span
+          pub span_after : (b : Bool) → r.found ≡ b → r.next.span ≡ span_of (longer b)
+          span_after true e = (says.goes e).span ∙ ap (λ z. widened_by z r.swing.width) t.span
+              ∙ sym (span_snoc (span_of []) t.past r.swing)
+          span_after false e = ap (λ (s : Scan). s.span) (says.stops e).same ∙ t.span
 
           pub opened_after : (b : Bool) → r.found ≡ b → Open c r.next.place
           opened_after true e = (says.goes e).opened
@@ -144,28 +144,28 @@ module _ (Real : Scanned → Type 0) (bytes : List ℕ) (c : ScanPlan) (ys : Lis
           place_after true e _ = omega (arith, (says.goes e).at, t.counted, one_more)
           place_after false e z = absurd (true≢false (sym z))
 
-          pub stored-after : (b : Bool) → r.found ≡ b
+          pub stored_after : (b : Bool) → r.found ≡ b
               → take (length (longer b)) (cond b (set onward r.at r.swing) onward) ≡ longer b
-          stored-after true e =
+          stored_after true e =
               let here : r.at ≡ length t.past = (says.goes e).at ∙ t.counted in
               let more : length t.past < length onward =
               omega (arith, sizes, ap length (says.goes e).list, same_length) in
               ap (λ (k : ℕ). take (length (t.past ++ (r.swing ∷ []))) (set onward k r.swing)) here
               ∙ take_more t.past onward r.swing more front
-          stored-after false e = front
+          stored_after false e = front
 
-          pub ended-after : r.found ≡ false → (rest bytes c r.next ≡ []) × Bytes bytes
-          ended-after e = (ap (λ (s : Scan). rest bytes c s) (says.stops e).same ∙ (says.stops e).list, says.are)
+          pub ended_after : r.found ≡ false → (rest bytes c r.next ≡ []) × Bytes bytes
+          ended_after e = (ap (λ (s : Scan). rest bytes c s) (says.stops e).same ∙ (says.stops e).list, says.are)
 
-          less-after : (b : Bool) → r.found ≡ b
+          less_after : (b : Bool) → r.found ≡ b
               → cond b (suc (length (rest bytes c r.next))) 0 < suc (length (rest bytes c t.out.next))
           unfolding length
-          less-after true e = omega (arith, ap length (says.goes e).list)
-          less-after false e = omega arith
+          less_after true e = omega (arith, ap length (says.goes e).list)
+          less_after false e = omega arith
 
           pub less : left r < left t.out
           less = subst (λ (b : Bool). left r < cond b (suc (length (rest bytes c t.out.next))) 0) (sym on)
-              (less-after r.found refl)
+              (less_after r.found refl)
 
           abbrev pub after : Real r → At
           after is = record {
@@ -173,13 +173,13 @@ module _ (Real : Scanned → Type 0) (bytes : List ℕ) (c : ScanPlan) (ys : Lis
             list = onward;
             past = longer r.found;
             real = is;
-            whole = whole-after r.found refl;
-            counted = counted-after r.found refl;
-            top = top-after r.found refl;
-            span = span-after r.found refl;
+            whole = whole_after r.found refl;
+            counted = counted_after r.found refl;
+            top = top_after r.found refl;
+            span = span_after r.found refl;
             opened = opened_after r.found refl;
             same = same_length;
             place = place_after r.found refl;
-            stored = stored-after r.found refl;
-            ended = ended-after;
+            stored = stored_after r.found refl;
+            ended = ended_after;
           }

@@ -1,5 +1,5 @@
--- Laws of `lineSwings` at sample a of a line of n samples: a run with its rise or without, and none left. Laws of
--- `swingsFrom`: a line with a swing, a line without, and none left.
+-- Laws of `line_swings` at sample a of a line of n samples: a run with its rise or without, and none left. Laws of
+-- `swings_from`: a line with a swing, a line without, and none left.
 use Prim.Native.Nat.{ℕ, ◌+◌, ◌-◌, ◌≤◌, ◌<◌}
 use native.Mathlib.Numerals.{add-one}
 use mathlib.Core.Path.{◌≡◌, refl, sym, ◌∙◌, ap}
@@ -12,86 +12,86 @@ use Rattle.swings.specs.declared.Swing.{Swing}
 use Rattle.swings.specs.declared.rises.Rise.TheVariants.{Found, Nothing}
 use Rattle.swings.specs.declared.run.RunEnd.TheVariants.{At, Level}
 use Rattle.swings.specs.Line.{Lines}
-use Rattle.swings.specs.Rise.{swingOf, riseOf}
-use Rattle.swings.specs.Runs.{Run, runsUpTo, runsAfter, steep, RunTo, SteepFrom}
-use Rattle.swings.specs.Swings.{scaledBy, withRise, swingsOf, lineSwings, swingsFrom}
-use Rattle.swings.proofs.Line.{left-more, left-none}
-use Rattle.swings.proofs.Rise.{rise-small}
+use Rattle.swings.specs.Rise.{swing_of, rise_of}
+use Rattle.swings.specs.Runs.{Run, runs_up_to, runs_after, steep, RunTo, SteepFrom}
+use Rattle.swings.specs.Swings.{scaled_by, with_rise, swings_of, line_swings, swings_from}
+use Rattle.swings.proofs.Line.{left_more, left_none}
+use Rattle.swings.proofs.Rise.{rise_small}
 use Rattle.swings.proofs.Runs.{runs_none}
 
 module _ (least : ℕ) (pixel : Float) (x : ℕ → ℕ) (n a : ℕ) where
-  pub swings-short : n < 3 → lineSwings least pixel x n a ≡ []
-  unfolding lineSwings swingsOf runsAfter
-  swings-short h = rw (lt-ltb n 3 h)
+  pub swings_short : n < 3 → line_swings least pixel x n a ≡ []
+  unfolding line_swings swings_of runs_after
+  swings_short h = rw (lt-ltb n 3 h)
 
-  pub line-swings : 3 ≤ n → lineSwings least pixel x n a ≡ swingsOf least pixel x (runsUpTo x (n - 1) a)
-  unfolding lineSwings runsAfter
-  line-swings h = rw (le-ltb n 3 h)
+  pub line_swings_holds : 3 ≤ n → line_swings least pixel x n a ≡ swings_of least pixel x (runs_up_to x (n - 1) a)
+  unfolding line_swings runs_after
+  line_swings_holds h = rw (le-ltb n 3 h)
 
-  pub swings-end : 3 ≤ n → n - 1 ≤ a → lineSwings least pixel x n a ≡ []
-  unfolding swingsOf
-  swings-end h k = rw (line-swings h, runs_none x (n - 1) a k)
+  pub swings_end : 3 ≤ n → n - 1 ≤ a → line_swings least pixel x n a ≡ []
+  unfolding swings_of
+  swings_end h k = rw (line_swings_holds h, runs_none x (n - 1) a k)
 
 -- runs that change by less than the least swing have none
-swings-steep : (least : ℕ) (pixel : Float) (x : ℕ → ℕ) (rs : List Run)
-    → swingsOf least pixel x rs ≡ swingsOf least pixel x (steep least x rs)
-unfolding swingsOf steep
-swings-steep least pixel x [] = refl
-swings-steep least pixel x (r ∷ rs) =
-    go (ltb (swingOf (x r.first) (x r.last)) least) refl (swings-steep least pixel x rs)
+swings_steep : (least : ℕ) (pixel : Float) (x : ℕ → ℕ) (rs : List Run)
+    → swings_of least pixel x rs ≡ swings_of least pixel x (steep least x rs)
+unfolding swings_of steep
+swings_steep least pixel x [] = refl
+swings_steep least pixel x (r ∷ rs) =
+    go (ltb (swing_of (x r.first) (x r.last)) least) refl (swings_steep least pixel x rs)
   where
-    go : (t : Bool) → ltb (swingOf (x r.first) (x r.last)) least ≡ t
-        → swingsOf least pixel x rs ≡ swingsOf least pixel x (steep least x rs)
-        → withRise pixel (riseOf least x r.first r.last) (swingsOf least pixel x rs) ≡ swingsOf least pixel x
+    go : (t : Bool) → ltb (swing_of (x r.first) (x r.last)) least ≡ t
+        → swings_of least pixel x rs ≡ swings_of least pixel x (steep least x rs)
+        → with_rise pixel (rise_of least x r.first r.last) (swings_of least pixel x rs) ≡ swings_of least pixel x
         (cond t (steep least x rs) (r ∷ steep least x rs))
-    go true e h = rw (rise-small least x r.first r.last (ltb-true _ _ e)) h
-    go false e h = ap (withRise pixel (riseOf least x r.first r.last)) h
+    go true e h = rw (rise_small least x r.first r.last (ltb-true _ _ e)) h
+    go false e h = ap (with_rise pixel (rise_of least x r.first r.last)) h
 
-pub swings-from : (least : ℕ) (pixel : Float) (x : ℕ → ℕ) (n b r : ℕ) → 3 ≤ n → SteepFrom x least (n - 1) b r
-    → lineSwings least pixel x n b ≡ lineSwings least pixel x n r
-swings-from least pixel x n b r h s =
-    line-swings least pixel x n b h
-    ∙ swings-steep least pixel x (runsUpTo x (n - 1) b)
-    ∙ ap (swingsOf least pixel x) s.runs
-    ∙ sym (swings-steep least pixel x (runsUpTo x (n - 1) r))
-    ∙ sym (line-swings least pixel x n r h)
+pub swings_from_lem : (least : ℕ) (pixel : Float) (x : ℕ → ℕ) (n b r : ℕ) → 3 ≤ n → SteepFrom x least (n - 1) b r
+    → line_swings least pixel x n b ≡ line_swings least pixel x n r
+swings_from_lem least pixel x n b r h s =
+    line_swings_holds least pixel x n b h
+    ∙ swings_steep least pixel x (runs_up_to x (n - 1) b)
+    ∙ ap (swings_of least pixel x) s.runs
+    ∙ sym (swings_steep least pixel x (runs_up_to x (n - 1) r))
+    ∙ sym (line_swings_holds least pixel x n r h)
 
-pub swings-level : (least : ℕ) (pixel : Float) (x : ℕ → ℕ) (n a : ℕ) → 3 ≤ n → RunTo x (n - 1) a Level
-    → lineSwings least pixel x n a ≡ []
-unfolding swingsOf
-swings-level least pixel x n a h r = rw (line-swings least pixel x n a h, r.runs)
+pub swings_level : (least : ℕ) (pixel : Float) (x : ℕ → ℕ) (n a : ℕ) → 3 ≤ n → RunTo x (n - 1) a Level
+    → line_swings least pixel x n a ≡ []
+unfolding swings_of
+swings_level least pixel x n a h r = rw (line_swings_holds least pixel x n a h, r.runs)
 
 module _ (least : ℕ) (pixel : Float) (x : ℕ → ℕ) (n a b : ℕ) (h : 3 ≤ n) (r : RunTo x (n - 1) a (At b)) where
-  swings-run : lineSwings least pixel x n a ≡ withRise pixel (riseOf least x a b) (lineSwings least pixel x n b)
-  unfolding swingsOf
-  swings-run = rw (line-swings least pixel x n a h, line-swings least pixel x n b h, r.runs)
+  swings-run : line_swings least pixel x n a ≡ with_rise pixel (rise_of least x a b) (line_swings least pixel x n b)
+  unfolding swings_of
+  swings-run = rw (line_swings_holds least pixel x n a h, line_swings_holds least pixel x n b h, r.runs)
 
-  pub swings-found : (s : Swing) → riseOf least x a b ≡ Found s
-      → lineSwings least pixel x n a ≡ scaledBy pixel s ∷ lineSwings least pixel x n b
-  swings-found s e = rw (swings-run, e)
+  pub swings_found : (s : Swing) → rise_of least x a b ≡ Found s
+      → line_swings least pixel x n a ≡ scaled_by pixel s ∷ line_swings least pixel x n b
+  swings_found s e = rw (swings-run, e)
 
-  pub swings-nothing : riseOf least x a b ≡ Nothing → lineSwings least pixel x n a ≡ lineSwings least pixel x n b
-  swings-nothing e = rw (swings-run, e)
+  pub swings_nothing : rise_of least x a b ≡ Nothing → line_swings least pixel x n a ≡ line_swings least pixel x n b
+  swings_nothing e = rw (swings-run, e)
 
 module _ (least : ℕ) (pixel : Float) (lines : Lines) (k a : ℕ) where
-  pub lines_none : lines.count ≤ k → swingsFrom least pixel lines k a (lines.count - k) ≡ []
-  unfolding swingsFrom
-  lines_none h = rw (left-none k lines.count h)
+  pub lines_none : lines.count ≤ k → swings_from least pixel lines k a (lines.count - k) ≡ []
+  unfolding swings_from
+  lines_none h = rw (left_none k lines.count h)
 
   lines_more : k < lines.count
-      → swingsFrom least pixel lines k a (lines.count - k) ≡ lineSwings least pixel (lines.line k) (lines.len k)
-      a ++ swingsFrom least pixel lines (k + 1) 0 (lines.count - (k + 1))
-  unfolding swingsFrom
-  lines_more h = rw (left-more k lines.count h, ← add-one k)
+      → swings_from least pixel lines k a (lines.count - k) ≡ line_swings least pixel (lines.line k) (lines.len k)
+      a ++ swings_from least pixel lines (k + 1) 0 (lines.count - (k + 1))
+  unfolding swings_from
+  lines_more h = rw (left_more k lines.count h, ← add-one k)
 
-  pub lines_next : k < lines.count → lineSwings least pixel (lines.line k) (lines.len k) a ≡ []
-      → swingsFrom least pixel lines k a (lines.count - k) ≡ swingsFrom least pixel lines (k + 1) 0
+  pub lines_next : k < lines.count → line_swings least pixel (lines.line k) (lines.len k) a ≡ []
+      → swings_from least pixel lines k a (lines.count - k) ≡ swings_from least pixel lines (k + 1) 0
       (lines.count - (k + 1))
   lines_next h e = rw (lines_more h, e)
 
-pub lines-found : (least : ℕ) (pixel : Float) (lines : Lines) (k a b : ℕ) (s : Swing) → k < lines.count
-    → lineSwings least pixel (lines.line k) (lines.len k) a ≡ s ∷ lineSwings least pixel (lines.line k)
+pub lines_found : (least : ℕ) (pixel : Float) (lines : Lines) (k a b : ℕ) (s : Swing) → k < lines.count
+    → line_swings least pixel (lines.line k) (lines.len k) a ≡ s ∷ line_swings least pixel (lines.line k)
     (lines.len k) b
-    → swingsFrom least pixel lines k a (lines.count - k) ≡ s ∷ swingsFrom least pixel lines k b (lines.count - k)
-lines-found least pixel lines k a b s h e =
+    → swings_from least pixel lines k a (lines.count - k) ≡ s ∷ swings_from least pixel lines k b (lines.count - k)
+lines_found least pixel lines k a b s h e =
     rw (lines_more least pixel lines k a h, lines_more least pixel lines k b h, e)

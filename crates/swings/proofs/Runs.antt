@@ -1,4 +1,4 @@
--- Laws of `runsFrom` at sample i of a line up to sample `last`: where a run starts, where it turns, where it goes on,
+-- Laws of `runs_from` at sample i of a line up to sample `last`: where a run starts, where it turns, where it goes on,
 -- and at the line's end; that small runs may be passed; and that every run lies in the line.
 use Prim.Native.Nat.{ℕ, zero, suc, ◌+◌, ◌-◌, ◌≤◌, ◌<◌}
 use native.Mathlib.Numerals.{add-one}
@@ -8,80 +8,80 @@ use mathlib.Core.Bool.{Bool, true, false, cond, not, ◌&&◌, true≢false}
 use mathlib.Core.List.{List, [], ◌∷◌}
 use lib.Dec.{ltb}
 use Rattle.numbers.proofs.Test.{cond_both}
-use Rattle.swings.specs.Runs.{Run, Slope, Level, Rising, Falling, slopeBetween, turnsAt, onwardFrom, lastRun}
-use Rattle.swings.specs.Runs.{runsFrom, runsUpTo, slopeOf, steep}
-use Rattle.swings.specs.Rise.{swingOf}
-use Rattle.swings.proofs.Line.{left-more, left-none}
-use Rattle.swings.proofs.Slopes.{onward-level, onward-slope, step-level, step-slope}
+use Rattle.swings.specs.Runs.{Run, Slope, Level, Rising, Falling, slope_between, turns_at, onward_from, last_run}
+use Rattle.swings.specs.Runs.{runs_from, runs_up_to, slope_of, steep}
+use Rattle.swings.specs.Rise.{swing_of}
+use Rattle.swings.proofs.Line.{left_more, left_none}
+use Rattle.swings.proofs.Slopes.{onward_level, onward_slope, step_level, step_slope}
 
 module _ (x : ℕ → ℕ) (last a : ℕ) where
-  pub runs_none : last ≤ a → runsUpTo x last a ≡ []
-  unfolding runsFrom
-  runs_none h = rw (left-none a last h)
+  pub runs_none : last ≤ a → runs_up_to x last a ≡ []
+  unfolding runs_from
+  runs_none h = rw (left_none a last h)
 
-  pub runs-start : a < last → runsUpTo x last a ≡ runsFrom x a (slopeBetween (x a) (x (a + 1))) (a + 1) (last - (a + 1))
-  unfolding runsFrom
-  runs-start h = rw (left-more a last h, ← add-one a)
-      (ap (λ (s : Slope). runsFrom x a s (a + 1) (last - (a + 1))) (onward-level (slopeBetween (x a) (x (a + 1)))))
+  pub runs_start : a < last → runs_up_to x last a ≡ runs_from x a (slope_between (x a) (x (a + 1))) (a + 1) (last - (a + 1))
+  unfolding runs_from
+  runs_start h = rw (left_more a last h, ← add-one a)
+      (ap (λ (s : Slope). runs_from x a s (a + 1) (last - (a + 1))) (onward_level (slope_between (x a) (x (a + 1)))))
 
 module _ (x : ℕ → ℕ) (last a : ℕ) (slope : Slope) (i : ℕ) (h : i < last) where
-  pub runs-turn : turnsAt slope (slopeBetween (x i) (x (i + 1))) ≡ true
-      → runsFrom x a slope i (last - i) ≡ record { first = a; last = i } ∷ runsUpTo x last i
-  unfolding runsFrom
-  runs-turn e = rw (runs-start x last i h) (rw (left-more i last h, ← add-one i, e))
+  pub runs_turn : turns_at slope (slope_between (x i) (x (i + 1))) ≡ true
+      → runs_from x a slope i (last - i) ≡ record { first = a; last = i } ∷ runs_up_to x last i
+  unfolding runs_from
+  runs_turn e = rw (runs_start x last i h) (rw (left_more i last h, ← add-one i, e))
 
-  pub runs-longer : turnsAt slope (slopeBetween (x i) (x (i + 1))) ≡ false
-      → runsFrom x a slope i (last - i) ≡ runsFrom x a (onwardFrom slope (slopeBetween (x i) (x (i + 1)))) (i + 1)
+  pub runs_longer : turns_at slope (slope_between (x i) (x (i + 1))) ≡ false
+      → runs_from x a slope i (last - i) ≡ runs_from x a (onward_from slope (slope_between (x i) (x (i + 1)))) (i + 1)
       (last - (i + 1))
-  unfolding runsFrom
-  runs-longer e = rw (left-more i last h, ← add-one i, e)
+  unfolding runs_from
+  runs_longer e = rw (left_more i last h, ← add-one i, e)
 
 -- ---- a run that is level so far: it goes on, ends with the line, or rises or falls
 module _ (x : ℕ → ℕ) (last a i : ℕ) where
-  pub level-on : i < last → x (i + 1) ≡ x i
-      → runsFrom x a Level i (last - i) ≡ runsFrom x a Level (i + 1) (last - (i + 1))
-  level-on h e =
-      runs-longer x last a Level i h refl
-      ∙ ap (λ (s : Slope). runsFrom x a s (i + 1) (last - (i + 1)))
-      (onward-level (slopeBetween (x i) (x (i + 1))) ∙ step-level (x i) (x (i + 1)) e)
+  pub level_on : i < last → x (i + 1) ≡ x i
+      → runs_from x a Level i (last - i) ≡ runs_from x a Level (i + 1) (last - (i + 1))
+  level_on h e =
+      runs_longer x last a Level i h refl
+      ∙ ap (λ (s : Slope). runs_from x a s (i + 1) (last - (i + 1)))
+      (onward_level (slope_between (x i) (x (i + 1))) ∙ step_level (x i) (x (i + 1)) e)
 
-  pub level-last : last ≤ i → runsFrom x a Level i (last - i) ≡ []
-  unfolding runsFrom
-  level-last h = rw (left-none i last h)
+  pub level_last : last ≤ i → runs_from x a Level i (last - i) ≡ []
+  unfolding runs_from
+  level_last h = rw (left_none i last h)
 
-  pub level-slope : i < last → (x i ≡ x (i + 1) → ⊥)
-      → runsFrom x a Level i (last - i) ≡ runsFrom x a (slopeOf (ltb (x i) (x (i + 1)))) (i + 1) (last - (i + 1))
-  level-slope h d =
-      runs-longer x last a Level i h refl
-      ∙ ap (λ (s : Slope). runsFrom x a s (i + 1) (last - (i + 1)))
-      (onward-level (slopeBetween (x i) (x (i + 1))) ∙ step-slope (x i) (x (i + 1)) d)
+  pub level_slope : i < last → (x i ≡ x (i + 1) → ⊥)
+      → runs_from x a Level i (last - i) ≡ runs_from x a (slope_of (ltb (x i) (x (i + 1)))) (i + 1) (last - (i + 1))
+  level_slope h d =
+      runs_longer x last a Level i h refl
+      ∙ ap (λ (s : Slope). runs_from x a s (i + 1) (last - (i + 1)))
+      (onward_level (slope_between (x i) (x (i + 1))) ∙ step_slope (x i) (x (i + 1)) d)
 
 -- ---- a run that rises or falls: it goes on, or ends with the line
 module _ (x : ℕ → ℕ) (last : ℕ) (rising : Bool) (i a : ℕ) where
-  pub slope-on : i < last → turnsAt (slopeOf rising) (slopeBetween (x i) (x (i + 1))) ≡ false
-      → runsFrom x a (slopeOf rising) i (last - i) ≡ runsFrom x a (slopeOf rising) (i + 1) (last - (i + 1))
-  slope-on h e =
-      runs-longer x last a (slopeOf rising) i h e
-      ∙ ap (λ (s : Slope). runsFrom x a s (i + 1) (last - (i + 1)))
-      (onward-slope rising (slopeBetween (x i) (x (i + 1))) e)
+  pub slope_on : i < last → turns_at (slope_of rising) (slope_between (x i) (x (i + 1))) ≡ false
+      → runs_from x a (slope_of rising) i (last - i) ≡ runs_from x a (slope_of rising) (i + 1) (last - (i + 1))
+  slope_on h e =
+      runs_longer x last a (slope_of rising) i h e
+      ∙ ap (λ (s : Slope). runs_from x a s (i + 1) (last - (i + 1)))
+      (onward_slope rising (slope_between (x i) (x (i + 1))) e)
 
-  pub slope-last : last ≤ i
-      → runsFrom x a (slopeOf rising) i (last - i) ≡ record { first = a; last = i } ∷ runsUpTo x last i
-  unfolding runsFrom
-  slope-last h = rw (runs_none x last i h, left-none i last h) (ended rising)
+  pub slope_last : last ≤ i
+      → runs_from x a (slope_of rising) i (last - i) ≡ record { first = a; last = i } ∷ runs_up_to x last i
+  unfolding runs_from
+  slope_last h = rw (runs_none x last i h, left_none i last h) (ended rising)
     where
-      ended : (r : Bool) → lastRun a (slopeOf r) i ≡ record { first = a; last = i } ∷ []
+      ended : (r : Bool) → last_run a (slope_of r) i ≡ record { first = a; last = i } ∷ []
       ended true = refl
       ended false = refl
 
 -- ---- where it turns, the next run goes the other way
-turned-slope : (rising : Bool) (step : Slope) → turnsAt (slopeOf rising) step ≡ true → step ≡ slopeOf (not rising)
-turned-slope true Level e = absurd (true≢false (sym e))
-turned-slope true Rising e = absurd (true≢false (sym e))
-turned-slope true Falling e = refl
-turned-slope false Level e = absurd (true≢false (sym e))
-turned-slope false Rising e = refl
-turned-slope false Falling e = absurd (true≢false (sym e))
+turned_slope : (rising : Bool) (step : Slope) → turns_at (slope_of rising) step ≡ true → step ≡ slope_of (not rising)
+turned_slope true Level e = absurd (true≢false (sym e))
+turned_slope true Rising e = absurd (true≢false (sym e))
+turned_slope true Falling e = refl
+turned_slope false Level e = absurd (true≢false (sym e))
+turned_slope false Rising e = refl
+turned_slope false Falling e = absurd (true≢false (sym e))
 
 -- ---- the state of the loop of `steep_from`
 
@@ -94,25 +94,25 @@ module _ (x : ℕ → ℕ) (least last b : ℕ) where
     pub here : v ≡ x i
     pub there : value ≡ x a
     pub began : b ≤ a
-    pub runs : runsUpTo x last a ≡ runsFrom x a (slopeOf rises) i (last - i)
-    pub passed : steep least x (runsUpTo x last b) ≡ steep least x (runsUpTo x last a)
+    pub runs : runs_up_to x last a ≡ runs_from x a (slope_of rises) i (last - i)
+    pub passed : steep least x (runs_up_to x last b) ≡ steep least x (runs_up_to x last a)
 
   -- at the next sample, w, it goes on, or, if it turned and is small, it is passed, and the one that starts here goes
   -- on
-  pub left-on : (a value : ℕ) (rises : Bool) (v i : ℕ) → Left a value rises v i → i < last → (w : ℕ) → w ≡ x (i + 1)
-      → (t : Bool) → t ≡ turnsAt (slopeOf rises) (slopeBetween v w)
-      → (not (ltb (swingOf value v) least) && t) ≡ false
+  pub left_on : (a value : ℕ) (rises : Bool) (v i : ℕ) → Left a value rises v i → i < last → (w : ℕ) → w ≡ x (i + 1)
+      → (t : Bool) → t ≡ turns_at (slope_of rises) (slope_between v w)
+      → (not (ltb (swing_of value v) least) && t) ≡ false
       → Left (cond t i a) (cond t v value) (cond t (not rises) rises) w (i + 1)
   unfolding steep
-  left-on a value rises v i l h w next t e f = go t (rw (l.here, next) at (sym e)) (rw (l.there, l.here) at f)
+  left_on a value rises v i l h w next t e f = go t (rw (l.here, next) at (sym e)) (rw (l.there, l.here) at f)
     where
-      small : (t : Bool) → ltb (swingOf (x a) (x i)) least ≡ t → (not t && true) ≡ false
-          → ltb (swingOf (x a) (x i)) least ≡ true
+      small : (t : Bool) → ltb (swing_of (x a) (x i)) least ≡ t → (not t && true) ≡ false
+          → ltb (swing_of (x a) (x i)) least ≡ true
       small true e f = e
       small false e f = absurd (true≢false f)
 
-      go : (t : Bool) → turnsAt (slopeOf rises) (slopeBetween (x i) (x (i + 1))) ≡ t
-          → (not (ltb (swingOf (x a) (x i)) least) && t) ≡ false
+      go : (t : Bool) → turns_at (slope_of rises) (slope_between (x i) (x (i + 1))) ≡ t
+          → (not (ltb (swing_of (x a) (x i)) least) && t) ≡ false
           → Left (cond t i a) (cond t v value) (cond t (not rises) rises) w (i + 1)
       go true e f =
           record {
@@ -121,15 +121,15 @@ module _ (x : ℕ → ℕ) (least last b : ℕ) where
             here = next;
             there = l.here;
             began = l.past;
-            runs = runs-start x last i h
-                ∙ ap (λ (s : Slope). runsFrom x i s (i + 1) (last - (i + 1)))
-                (turned-slope rises (slopeBetween (x i) (x (i + 1))) e);
+            runs = runs_start x last i h
+                ∙ ap (λ (s : Slope). runs_from x i s (i + 1) (last - (i + 1)))
+                (turned_slope rises (slope_between (x i) (x (i + 1))) e);
             passed =
                 l.passed
-                ∙ ap (steep least x) (l.runs ∙ runs-turn x last a (slopeOf rises) i h e)
-                ∙ ap (λ (t : Bool). cond t (steep least x (runsUpTo x last i))
-                (record { first = a; last = i } ∷ steep least x (runsUpTo x last i)))
-                (small (ltb (swingOf (x a) (x i)) least) refl f);
+                ∙ ap (steep least x) (l.runs ∙ runs_turn x last a (slope_of rises) i h e)
+                ∙ ap (λ (t : Bool). cond t (steep least x (runs_up_to x last i))
+                (record { first = a; last = i } ∷ steep least x (runs_up_to x last i)))
+                (small (ltb (swing_of (x a) (x i)) least) refl f);
           }
       go false e f =
           record {
@@ -138,7 +138,7 @@ module _ (x : ℕ → ℕ) (least last b : ℕ) where
             here = next;
             there = l.there;
             began = l.began;
-            runs = l.runs ∙ slope-on x last rises i a h e;
+            runs = l.runs ∙ slope_on x last rises i a h e;
             passed = l.passed;
           }
 
@@ -147,18 +147,18 @@ abbrev pub RunsWithin : ℕ → List Run → Type 0
 RunsWithin N [] = Unit {0}
 RunsWithin N (r ∷ rs) = (r.first ≤ N) × (r.last ≤ N) × RunsWithin N rs
 
-last_within : (N a : ℕ) (slope : Slope) (i : ℕ) → a ≤ N → i ≤ N → RunsWithin N (lastRun a slope i)
+last_within : (N a : ℕ) (slope : Slope) (i : ℕ) → a ≤ N → i ≤ N → RunsWithin N (last_run a slope i)
 last_within N a Level i h k = tt
 last_within N a Rising i h k = (h, k, tt)
 last_within N a Falling i h k = (h, k, tt)
 
-pub runs-within : (x : ℕ → ℕ) (N a : ℕ) (slope : Slope) (i k : ℕ) → a ≤ N → i + k ≤ N
-    → RunsWithin N (runsFrom x a slope i k)
-unfolding runsFrom
-runs-within x N a slope i zero h l = last_within N a slope i h (omega arith)
-runs-within x N a slope i (suc k) h l =
-    cond_both (RunsWithin N) (turnsAt slope (slopeBetween (x i) (x (suc i))))
-    (record { first = a; last = i } ∷ runsFrom x i (slopeBetween (x i) (x (suc i))) (suc i) k)
-    (runsFrom x a (onwardFrom slope (slopeBetween (x i) (x (suc i)))) (suc i) k)
-    (h, omega arith, runs-within x N i (slopeBetween (x i) (x (suc i))) (suc i) k (omega arith) (omega arith))
-    (runs-within x N a (onwardFrom slope (slopeBetween (x i) (x (suc i)))) (suc i) k h (omega arith))
+pub runs_within : (x : ℕ → ℕ) (N a : ℕ) (slope : Slope) (i k : ℕ) → a ≤ N → i + k ≤ N
+    → RunsWithin N (runs_from x a slope i k)
+unfolding runs_from
+runs_within x N a slope i zero h l = last_within N a slope i h (omega arith)
+runs_within x N a slope i (suc k) h l =
+    cond_both (RunsWithin N) (turns_at slope (slope_between (x i) (x (suc i))))
+    (record { first = a; last = i } ∷ runs_from x i (slope_between (x i) (x (suc i))) (suc i) k)
+    (runs_from x a (onward_from slope (slope_between (x i) (x (suc i)))) (suc i) k)
+    (h, omega arith, runs_within x N i (slope_between (x i) (x (suc i))) (suc i) k (omega arith) (omega arith))
+    (runs_within x N a (onward_from slope (slope_between (x i) (x (suc i)))) (suc i) k h (omega arith))

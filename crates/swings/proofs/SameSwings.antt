@@ -1,5 +1,5 @@
 -- The swings of a line depend on its samples alone, and those of a picture on its pixels: `line_same`,
--- `remaining-same`, `swings-same`.
+-- `remaining_same`, `swings_same`.
 use Prim.Native.Nat.{ℕ, zero, suc, ◌+◌, ◌-◌, ◌≤◌, ◌<◌}
 use native.Mathlib.Omega.{arith}
 use native.Mathlib.Decide.{dec_lt}
@@ -14,24 +14,24 @@ use Rattle.swings.specs.declared.rises.Mark.TheVariants.{At}
 use Rattle.swings.specs.declared.scan.OnLine.{OnLine}
 use Rattle.swings.specs.declared.scan.OnLine.TheVariants.{Next, End}
 use Rattle.swings.specs.Line.{Lines}
-use Rattle.swings.specs.Rise.{double, levelOf, crossedAt, placeAt, crossing_of, low_part, high_part, riseOf}
-use Rattle.swings.specs.Runs.{Run, Slope, Level, slopeBetween, turnsAt, onwardFrom, runsFrom, runsUpTo}
-use Rattle.swings.specs.Swings.{withRise, swingsOf, lineSwings, swingsFrom}
-use Rattle.swings.specs.Scan.{remainingOnLine}
-use Rattle.swings.proofs.Runs.{RunsWithin, runs-within}
-use Rattle.swings.proofs.LineSwings.{swings-short, swings-end, line-swings}
+use Rattle.swings.specs.Rise.{double, level_of, crossed_at, place_at, crossing_of, low_part, high_part, rise_of}
+use Rattle.swings.specs.Runs.{Run, Slope, Level, slope_between, turns_at, onward_from, runs_from, runs_up_to}
+use Rattle.swings.specs.Swings.{with_rise, swings_of, line_swings, swings_from}
+use Rattle.swings.specs.Scan.{remaining_on_line}
+use Rattle.swings.proofs.Runs.{RunsWithin, runs_within}
+use Rattle.swings.proofs.LineSwings.{swings_short, swings_end, line_swings_holds}
 
 -- two lines with the same samples up to place N
 module _ {x y : ℕ → ℕ} (N : ℕ) (same : (j : ℕ) → j ≤ N → x j ≡ y j) where
-  runs_same : (a : ℕ) (slope : Slope) (i k : ℕ) → i + k ≤ N → runsFrom x a slope i k ≡ runsFrom y a slope i k
-  unfolding runsFrom
+  runs_same : (a : ℕ) (slope : Slope) (i k : ℕ) → i + k ≤ N → runs_from x a slope i k ≡ runs_from y a slope i k
+  unfolding runs_from
   runs_same a slope i zero h = refl
   runs_same a slope i (suc k) h =
       rw (same i (omega arith), same (suc i) (omega arith))
-      (ap₂ (λ (next longer : List Run). cond (turnsAt slope (slopeBetween (y i) (y (suc i))))
+      (ap₂ (λ (next longer : List Run). cond (turns_at slope (slope_between (y i) (y (suc i))))
       (record { first = a; last = i } ∷ next) longer)
-      (runs_same i (slopeBetween (y i) (y (suc i))) (suc i) k (omega arith))
-      (runs_same a (onwardFrom slope (slopeBetween (y i) (y (suc i)))) (suc i) k (omega arith)))
+      (runs_same i (slope_between (y i) (y (suc i))) (suc i) k (omega arith))
+      (runs_same a (onward_from slope (slope_between (y i) (y (suc i)))) (suc i) k (omega arith)))
 
   crossing-same : (rising : Bool) (level : Float) (i k : ℕ) → i + k ≤ N
       → crossing_of x rising level i k ≡ crossing_of y rising level i k
@@ -39,61 +39,61 @@ module _ {x y : ℕ → ℕ} (N : ℕ) (same : (j : ℕ) → j ≤ N → x j ≡
   crossing-same rising level i zero h = refl
   crossing-same rising level i (suc k) h =
       rw (same i (omega arith), same (suc i) (omega arith))
-      (ap (λ (later : Mark). cond (crossedAt rising level (double y i) (double y (suc i)))
-      (At (placeAt i level (double y i) (double y (suc i)))) later)
+      (ap (λ (later : Mark). cond (crossed_at rising level (double y i) (double y (suc i)))
+      (At (place_at i level (double y i) (double y (suc i)))) later)
       (crossing-same rising level (suc i) k (omega arith)))
 
-  rise-same : (least a b : ℕ) → a ≤ N → b ≤ N → riseOf least x a b ≡ riseOf least y a b
-  unfolding riseOf
+  rise-same : (least a b : ℕ) → a ≤ N → b ≤ N → rise_of least x a b ≡ rise_of least y a b
+  unfolding rise_of
   rise-same least a b h k =
       rw (
         same a h,
         same b k,
-        crossing-same (ltb (y a) (y b)) (levelOf (y a) (y b) low_part) a (b - a) (omega arith),
-        crossing-same (ltb (y a) (y b)) (levelOf (y a) (y b) high_part) a (b - a) (omega arith),
+        crossing-same (ltb (y a) (y b)) (level_of (y a) (y b) low_part) a (b - a) (omega arith),
+        crossing-same (ltb (y a) (y b)) (level_of (y a) (y b) high_part) a (b - a) (omega arith),
       )
 
   runs-swings-same : (least : ℕ) (pixel : Float) (rs : List Run) → RunsWithin N rs
-      → swingsOf least pixel x rs ≡ swingsOf least pixel y rs
-  unfolding swingsOf
+      → swings_of least pixel x rs ≡ swings_of least pixel y rs
+  unfolding swings_of
   runs-swings-same least pixel [] h = refl
   runs-swings-same least pixel (r ∷ rs) h =
-      ap₂ (withRise pixel) (rise-same least r.first r.last h.0 h.1) (runs-swings-same least pixel rs h.2)
+      ap₂ (with_rise pixel) (rise-same least r.first r.last h.0 h.1) (runs-swings-same least pixel rs h.2)
 
 pub line_same : (least : ℕ) (pixel : Float) {x y : ℕ → ℕ} (n a : ℕ) → ((j : ℕ) → j < n → x j ≡ y j)
-    → lineSwings least pixel x n a ≡ lineSwings least pixel y n a
+    → line_swings least pixel x n a ≡ line_swings least pixel y n a
 line_same least pixel {x} {y} n a same = go (dec_lt n 3) (dec_lt a (n - 1))
   where
     within : 3 ≤ n → (j : ℕ) → j ≤ n - 1 → x j ≡ y j
     within h j k = same j (omega arith)
 
-    go : Dec (n < 3) → Dec (a < n - 1) → lineSwings least pixel x n a ≡ lineSwings least pixel y n a
-    go (yes s) d = swings-short least pixel x n a s ∙ sym (swings-short least pixel y n a s)
-    go (no s) (no l) = swings-end least pixel x n a (omega arith) (omega arith)
-        ∙ sym (swings-end least pixel y n a (omega arith) (omega arith))
+    go : Dec (n < 3) → Dec (a < n - 1) → line_swings least pixel x n a ≡ line_swings least pixel y n a
+    go (yes s) d = swings_short least pixel x n a s ∙ sym (swings_short least pixel y n a s)
+    go (no s) (no l) = swings_end least pixel x n a (omega arith) (omega arith)
+        ∙ sym (swings_end least pixel y n a (omega arith) (omega arith))
     go (no s) (yes l) =
-        line-swings least pixel x n a (omega arith)
-        ∙ ap (swingsOf least pixel x) (runs_same (n - 1) (within (omega arith)) a Level a (n - 1 - a) (omega arith))
-        ∙ runs-swings-same (n - 1) (within (omega arith)) least pixel (runsUpTo y (n - 1) a)
-        (runs-within y (n - 1) a Level a (n - 1 - a) (omega arith) (omega arith))
-        ∙ sym (line-swings least pixel y n a (omega arith))
+        line_swings_holds least pixel x n a (omega arith)
+        ∙ ap (swings_of least pixel x) (runs_same (n - 1) (within (omega arith)) a Level a (n - 1 - a) (omega arith))
+        ∙ runs-swings-same (n - 1) (within (omega arith)) least pixel (runs_up_to y (n - 1) a)
+        (runs_within y (n - 1) a Level a (n - 1 - a) (omega arith) (omega arith))
+        ∙ sym (line_swings_holds least pixel y n a (omega arith))
 
 -- what a scan of a line says, of another with the same samples
-pub remaining-same : (least : ℕ) (pixel : Float) {x y : ℕ → ℕ} (n a : ℕ) (o : OnLine) → ((j : ℕ) → j < n → x j ≡ y j)
-    → lineSwings least pixel x n a ≡ remainingOnLine least pixel x n o
-    → lineSwings least pixel y n a ≡ remainingOnLine least pixel y n o
-remaining-same least pixel n a (Next s b) same e = sym (line_same least pixel n a same) ∙ e
+pub remaining_same : (least : ℕ) (pixel : Float) {x y : ℕ → ℕ} (n a : ℕ) (o : OnLine) → ((j : ℕ) → j < n → x j ≡ y j)
+    → line_swings least pixel x n a ≡ remaining_on_line least pixel x n o
+    → line_swings least pixel y n a ≡ remaining_on_line least pixel y n o
+remaining_same least pixel n a (Next s b) same e = sym (line_same least pixel n a same) ∙ e
     ∙ ap (λ (l : List Swing). s ∷ l) (line_same least pixel n b same)
-remaining-same least pixel n a End same e = sym (line_same least pixel n a same) ∙ e
+remaining_same least pixel n a End same e = sym (line_same least pixel n a same) ∙ e
 
 -- j lines from line k on
-pub swings-same : (least : ℕ) (pixel : Float) (p q : Lines) → ((k : ℕ) → p.len k ≡ q.len k)
+pub swings_same : (least : ℕ) (pixel : Float) (p q : Lines) → ((k : ℕ) → p.len k ≡ q.len k)
     → (k a j : ℕ) → ((m i : ℕ) → m < k + j → i < p.len m → p.line m i ≡ q.line m i)
-    → swingsFrom least pixel p k a j ≡ swingsFrom least pixel q k a j
-unfolding swingsFrom
-swings-same least pixel p q lens k a zero same = refl
-swings-same least pixel p q lens k a (suc j) same =
+    → swings_from least pixel p k a j ≡ swings_from least pixel q k a j
+unfolding swings_from
+swings_same least pixel p q lens k a zero same = refl
+swings_same least pixel p q lens k a (suc j) same =
     ap₂ (◌++◌ {A = Swing})
     (line_same least pixel (p.len k) a (λ i. same k i (omega arith))
-    ∙ ap (λ (n : ℕ). lineSwings least pixel (q.line k) n a) (lens k))
-    (swings-same least pixel p q lens (suc k) 0 j (λ m i h. same m i (omega arith)))
+    ∙ ap (λ (n : ℕ). line_swings least pixel (q.line k) n a) (lens k))
+    (swings_same least pixel p q lens (suc k) 0 j (λ m i h. same m i (omega arith)))

@@ -9,8 +9,8 @@ use Prim.Native.Nat.{ℕ, ◌≤◌, ◌<◌, max, min}
 use Rattle.swings.specs.declared.Swing.{Swing}
 use Rattle.swings.specs.Swings.{larger, strongest}
 
-larger-pos : (a b : ℕ) → larger (pos a) (pos b) ≡ pos (max a b)
-larger-pos a b = go (leb a b) (leb→le a b) (nleb→lt a b)
+larger_pos : (a b : ℕ) → larger (pos a) (pos b) ≡ pos (max a b)
+larger_pos a b = go (leb a b) (leb→le a b) (nleb→lt a b)
   where
     go : (t : Bool) → (T t → a ≤ b) → (T (not t) → b < a) → cond t (pos b) (pos a) ≡ pos (max a b)
     go true f g = ap pos (least (f tt))
@@ -22,8 +22,8 @@ larger-pos a b = go (leb a b) (leb→le a b) (nleb→lt a b)
         most : b < a → a ≡ max a b
         most h = omega arith
 
-larger-neg : (a b : ℕ) → larger (negsuc a) (negsuc b) ≡ negsuc (min a b)
-larger-neg a b = go (leb b a) (leb→le b a) (nleb→lt b a)
+larger_neg : (a b : ℕ) → larger (negsuc a) (negsuc b) ≡ negsuc (min a b)
+larger_neg a b = go (leb b a) (leb→le b a) (nleb→lt b a)
   where
     go : (t : Bool) → (T t → b ≤ a) → (T (not t) → a < b) → cond t (negsuc b) (negsuc a) ≡ negsuc (min a b)
     go true f g = ap negsuc (least (f tt))
@@ -35,38 +35,38 @@ larger-neg a b = go (leb b a) (leb→le b a) (nleb→lt b a)
         most : a < b → a ≡ min a b
         most h = omega arith
 
-pub larger-comm : (a b : ℤ) → larger a b ≡ larger b a
-larger-comm (pos a) (pos b) = larger-pos a b ∙ ap pos (swap a b) ∙ sym (larger-pos b a)
+pub larger_comm : (a b : ℤ) → larger a b ≡ larger b a
+larger_comm (pos a) (pos b) = larger_pos a b ∙ ap pos (swap a b) ∙ sym (larger_pos b a)
   where
     swap : (m n : ℕ) → max m n ≡ max n m
     swap m n = omega arith
-larger-comm (pos a) (negsuc b) = refl
-larger-comm (negsuc a) (pos b) = refl
-larger-comm (negsuc a) (negsuc b) = larger-neg a b ∙ ap negsuc (swap a b) ∙ sym (larger-neg b a)
+larger_comm (pos a) (negsuc b) = refl
+larger_comm (negsuc a) (pos b) = refl
+larger_comm (negsuc a) (negsuc b) = larger_neg a b ∙ ap negsuc (swap a b) ∙ sym (larger_neg b a)
   where
     swap : (m n : ℕ) → min m n ≡ min n m
     swap m n = omega arith
 
-pub larger-assoc : (a b c : ℤ) → larger a (larger b c) ≡ larger (larger a b) c
-larger-assoc (pos a) (pos b) (pos c) =
-    rw (larger-pos b c, larger-pos a b, larger-pos a (max b c), larger-pos (max a b) c) (ap pos (regroup a b c))
+pub larger_assoc : (a b c : ℤ) → larger a (larger b c) ≡ larger (larger a b) c
+larger_assoc (pos a) (pos b) (pos c) =
+    rw (larger_pos b c, larger_pos a b, larger_pos a (max b c), larger_pos (max a b) c) (ap pos (regroup a b c))
   where
     regroup : (m n k : ℕ) → max m (max n k) ≡ max (max m n) k
     regroup m n k = omega arith
-larger-assoc (pos a) (pos b) (negsuc c) = rw (larger-pos a b) refl
-larger-assoc (pos a) (negsuc b) (pos c) = refl
-larger-assoc (pos a) (negsuc b) (negsuc c) = rw (larger-neg b c) refl
-larger-assoc (negsuc a) (pos b) (pos c) = rw (larger-pos b c) refl
-larger-assoc (negsuc a) (pos b) (negsuc c) = refl
-larger-assoc (negsuc a) (negsuc b) (pos c) = rw (larger-neg a b) refl
-larger-assoc (negsuc a) (negsuc b) (negsuc c) =
-    rw (larger-neg b c, larger-neg a b, larger-neg a (min b c), larger-neg (min a b) c) (ap negsuc (regroup a b c))
+larger_assoc (pos a) (pos b) (negsuc c) = rw (larger_pos a b) refl
+larger_assoc (pos a) (negsuc b) (pos c) = refl
+larger_assoc (pos a) (negsuc b) (negsuc c) = rw (larger_neg b c) refl
+larger_assoc (negsuc a) (pos b) (pos c) = rw (larger_pos b c) refl
+larger_assoc (negsuc a) (pos b) (negsuc c) = refl
+larger_assoc (negsuc a) (negsuc b) (pos c) = rw (larger_neg a b) refl
+larger_assoc (negsuc a) (negsuc b) (negsuc c) =
+    rw (larger_neg b c, larger_neg a b, larger_neg a (min b c), larger_neg (min a b) c) (ap negsuc (regroup a b c))
   where
     regroup : (m n k : ℕ) → min m (min n k) ≡ min (min m n) k
     regroup m n k = omega arith
 
 -- one swing more: the list so far has its strongest, and `stronger` takes in the next
-pub strongest-snoc : (l : List Swing) (s : Swing) → strongest (l ++ (s ∷ [])) ≡ larger (strongest l) s.swing
-strongest-snoc [] s = larger-comm s.swing (pos 0)
-strongest-snoc (t ∷ l) s = ap (larger t.swing) (strongest-snoc l s)
-    ∙ larger-assoc t.swing (strongest l) s.swing
+pub strongest_snoc : (l : List Swing) (s : Swing) → strongest (l ++ (s ∷ [])) ≡ larger (strongest l) s.swing
+strongest_snoc [] s = larger_comm s.swing (pos 0)
+strongest_snoc (t ∷ l) s = ap (larger t.swing) (strongest_snoc l s)
+    ∙ larger_assoc t.swing (strongest l) s.swing

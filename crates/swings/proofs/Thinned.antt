@@ -19,30 +19,30 @@ use Rattle.swings.specs.declared.rises.Mark.{Mark}
 use Rattle.swings.specs.declared.rises.Mark.TheVariants.{At, Unset}
 use Rattle.swings.specs.declared.rises.Rise.TheVariants.{Found, Nothing}
 use Rattle.swings.specs.Line.{Lines}
-use Rattle.swings.specs.Rise.{swingOf, riseBetween, riseOf}
-use Rattle.swings.specs.Runs.{Run, runsAfter}
-use Rattle.swings.specs.Swings.{withRise, swingsOf, lineSwings, swingsFrom, larger}
+use Rattle.swings.specs.Rise.{swing_of, rise_between, rise_of}
+use Rattle.swings.specs.Runs.{Run, runs_after}
+use Rattle.swings.specs.Swings.{with_rise, swings_of, line_swings, swings_from, larger}
 use Rattle.swings.specs.Scan.{half_of, thinned}
 use Rattle.walks.specs.Each.{Each}
-use Rattle.swings.proofs.Rise.{rise-small, rise-is}
+use Rattle.swings.proofs.Rise.{rise_small, rise_is}
 
 -- ---- the swings of at least u
 abbrev pub at_least : ℕ → List Swing → List Swing
 at_least u [] = []
 at_least u (s ∷ l) = cond (le_z (pos u) s.swing) (s ∷ at_least u l) (at_least u l)
 
-at-least-append : (u : ℕ) (l m : List Swing) → at_least u (l ++ m) ≡ at_least u l ++ at_least u m
-at-least-append u [] m = refl
-at-least-append u (s ∷ l) m = go (le_z (pos u) s.swing) (at-least-append u l m)
+at_least_append : (u : ℕ) (l m : List Swing) → at_least u (l ++ m) ≡ at_least u l ++ at_least u m
+at_least_append u [] m = refl
+at_least_append u (s ∷ l) m = go (le_z (pos u) s.swing) (at_least_append u l m)
   where
     go : (t : Bool) → at_least u (l ++ m) ≡ at_least u l ++ at_least u m
         → cond t (s ∷ at_least u (l ++ m)) (at_least u (l ++ m)) ≡ cond t (s ∷ at_least u l) (at_least u l) ++ at_least u m
     go true e = ap (λ (k : List Swing). s ∷ k) e
     go false e = e
 
-at-least-each : (u : ℕ) (l : List Swing) → Each (λ (s : Swing). le_z (pos u) s.swing ≡ true) (at_least u l)
-at-least-each u [] = tt
-at-least-each u (s ∷ l) = go (le_z (pos u) s.swing) refl (at-least-each u l)
+at_least_each : (u : ℕ) (l : List Swing) → Each (λ (s : Swing). le_z (pos u) s.swing ≡ true) (at_least u l)
+at_least_each u [] = tt
+at_least_each u (s ∷ l) = go (le_z (pos u) s.swing) refl (at_least_each u l)
   where
     go : (t : Bool) → le_z (pos u) s.swing ≡ t → Each (λ (s : Swing). le_z (pos u) s.swing ≡ true) (at_least u l)
         → Each (λ (s : Swing). le_z (pos u) s.swing ≡ true) (cond t (s ∷ at_least u l) (at_least u l))
@@ -51,9 +51,9 @@ at-least-each u (s ∷ l) = go (le_z (pos u) s.swing) refl (at-least-each u l)
 
 module _ (least u : ℕ) (pixel : Float) where
   between-raised : (t : Bool) (low high : Mark) (v : ℕ) (others : List Swing) → leb u v ≡ t
-      → at_least u (withRise pixel (riseBetween low high v) others) ≡ cond t
-      (withRise pixel (riseBetween low high v) (at_least u others)) (at_least u others)
-  unfolding riseBetween
+      → at_least u (with_rise pixel (rise_between low high v) others) ≡ cond t
+      (with_rise pixel (rise_between low high v) (at_least u others)) (at_least u others)
+  unfolding rise_between
   between-raised true Unset high v others e = refl
   between-raised false Unset high v others e = refl
   between-raised true (At p) Unset v others e = refl
@@ -61,56 +61,56 @@ module _ (least u : ℕ) (pixel : Float) where
   between-raised true (At p) (At q) v others e = go (lt p q)
     where
       go : (b : Bool) → at_least u
-          (withRise pixel (cond b (Found (record { width = sub binary64 q p; swing = pos v })) Nothing) others)
-          ≡ withRise pixel (cond b (Found (record { width = sub binary64 q p; swing = pos v })) Nothing)
+          (with_rise pixel (cond b (Found (record { width = sub binary64 q p; swing = pos v })) Nothing) others)
+          ≡ with_rise pixel (cond b (Found (record { width = sub binary64 q p; swing = pos v })) Nothing)
           (at_least u others)
       go true = rw e refl
       go false = refl
   between-raised false (At p) (At q) v others e = go (lt p q)
     where
       go : (b : Bool) → at_least u
-          (withRise pixel (cond b (Found (record { width = sub binary64 q p; swing = pos v })) Nothing) others)
+          (with_rise pixel (cond b (Found (record { width = sub binary64 q p; swing = pos v })) Nothing) others)
           ≡ at_least u others
       go true = rw e refl
       go false = refl
 
   rise-raised : (x : ℕ → ℕ) (a b : ℕ) (others : List Swing)
-      → withRise pixel (riseOf (max least u) x a b) (at_least u others) ≡ at_least u
-      (withRise pixel (riseOf least x a b) others)
-  rise-raised x a b others = go (dec_lt (swingOf (x a) (x b)) least) (dec_lt (swingOf (x a) (x b)) u)
+      → with_rise pixel (rise_of (max least u) x a b) (at_least u others) ≡ at_least u
+      (with_rise pixel (rise_of least x a b) others)
+  rise-raised x a b others = go (dec_lt (swing_of (x a) (x b)) least) (dec_lt (swing_of (x a) (x b)) u)
     where
-      go : Dec (swingOf (x a) (x b) < least) → Dec (swingOf (x a) (x b) < u)
-          → withRise pixel (riseOf (max least u) x a b) (at_least u others) ≡ at_least u
-          (withRise pixel (riseOf least x a b) others)
-      go (yes h) d = rw (rise-small least x a b h, rise-small (max least u) x a b (omega arith)) refl
-      go (no h) (yes k) = rw (rise-small (max least u) x a b (omega arith), rise-is least x a b (omega arith))
-          (sym (between-raised false _ _ (swingOf (x a) (x b)) others (lt-leb u (swingOf (x a) (x b)) k)))
-      go (no h) (no k) = rw (rise-is (max least u) x a b (omega arith), rise-is least x a b (omega arith))
-          (sym (between-raised true _ _ (swingOf (x a) (x b)) others (le-leb u (swingOf (x a) (x b)) (omega arith))))
+      go : Dec (swing_of (x a) (x b) < least) → Dec (swing_of (x a) (x b) < u)
+          → with_rise pixel (rise_of (max least u) x a b) (at_least u others) ≡ at_least u
+          (with_rise pixel (rise_of least x a b) others)
+      go (yes h) d = rw (rise_small least x a b h, rise_small (max least u) x a b (omega arith)) refl
+      go (no h) (yes k) = rw (rise_small (max least u) x a b (omega arith), rise_is least x a b (omega arith))
+          (sym (between-raised false _ _ (swing_of (x a) (x b)) others (lt-leb u (swing_of (x a) (x b)) k)))
+      go (no h) (no k) = rw (rise_is (max least u) x a b (omega arith), rise_is least x a b (omega arith))
+          (sym (between-raised true _ _ (swing_of (x a) (x b)) others (le-leb u (swing_of (x a) (x b)) (omega arith))))
 
-  runs-raised : (x : ℕ → ℕ) (rs : List Run) → swingsOf (max least u) pixel x rs ≡ at_least u (swingsOf least pixel x rs)
-  unfolding swingsOf
+  runs-raised : (x : ℕ → ℕ) (rs : List Run) → swings_of (max least u) pixel x rs ≡ at_least u (swings_of least pixel x rs)
+  unfolding swings_of
   runs-raised x [] = refl
-  runs-raised x (r ∷ rs) = ap (withRise pixel (riseOf (max least u) x r.first r.last)) (runs-raised x rs)
-      ∙ rise-raised x r.first r.last (swingsOf least pixel x rs)
+  runs-raised x (r ∷ rs) = ap (with_rise pixel (rise_of (max least u) x r.first r.last)) (runs-raised x rs)
+      ∙ rise-raised x r.first r.last (swings_of least pixel x rs)
 
-  line-raised : (x : ℕ → ℕ) (n a : ℕ) → lineSwings (max least u) pixel x n a ≡ at_least u (lineSwings least pixel x n a)
-  unfolding lineSwings
-  line-raised x n a = runs-raised x (runsAfter x n a)
+  line-raised : (x : ℕ → ℕ) (n a : ℕ) → line_swings (max least u) pixel x n a ≡ at_least u (line_swings least pixel x n a)
+  unfolding line_swings
+  line-raised x n a = runs-raised x (runs_after x n a)
 
-  pub raised-swings : (lines : Lines) (k a j : ℕ)
-      → swingsFrom (max least u) pixel lines k a j ≡ at_least u (swingsFrom least pixel lines k a j)
-  unfolding swingsFrom
-  raised-swings lines k a zero = refl
-  raised-swings lines k a (suc j) =
-      ap₂ (◌++◌ {A = Swing}) (line-raised (lines.line k) (lines.len k) a) (raised-swings lines (suc k) 0 j)
-      ∙ sym (at-least-append u (lineSwings least pixel (lines.line k) (lines.len k) a)
-      (swingsFrom least pixel lines (suc k) 0 j))
+  pub raised_swings : (lines : Lines) (k a j : ℕ)
+      → swings_from (max least u) pixel lines k a j ≡ at_least u (swings_from least pixel lines k a j)
+  unfolding swings_from
+  raised_swings lines k a zero = refl
+  raised_swings lines k a (suc j) =
+      ap₂ (◌++◌ {A = Swing}) (line-raised (lines.line k) (lines.len k) a) (raised_swings lines (suc k) 0 j)
+      ∙ sym (at_least_append u (line_swings least pixel (lines.line k) (lines.len k) a)
+      (swings_from least pixel lines (suc k) 0 j))
 
 -- ---- half of the strongest
-pub half-larger : (top z : ℤ) → half_of top ≤ half_of (larger top z)
+pub half_larger : (top z : ℤ) → half_of top ≤ half_of (larger top z)
 unfolding half_of
-half-larger top z = go (le_z top z) refl
+half_larger top z = go (le_z top z) refl
   where
     go : (t : Bool) → le_z top z ≡ t → half_of top ≤ half_of (cond t z top)
     go true e = grows top z e
@@ -126,12 +126,12 @@ module _ (top : ℤ) (s : Swing) (l : List Swing) where
   abbrev pub onward : Bool → List Swing
   onward t = cond t (s ∷ thinned (larger top s.swing) l) (thinned top l)
 
-pub thinned-again : (u : ℕ) (top : ℤ) → u ≤ half_of top → (l : List Swing) → thinned top (at_least u l) ≡ thinned top l
+pub thinned_again : (u : ℕ) (top : ℤ) → u ≤ half_of top → (l : List Swing) → thinned top (at_least u l) ≡ thinned top l
 unfolding thinned
-thinned-again u top h [] = refl
-thinned-again u top h (s ∷ l) =
+thinned_again u top h [] = refl
+thinned_again u top h (s ∷ l) =
     go (le_z (pos u) s.swing) (le_z (pos (half_of top)) s.swing) refl refl
-    (thinned-again u (larger top s.swing) (le_trans h (half-larger top s.swing)) l) (thinned-again u top h l)
+    (thinned_again u (larger top s.swing) (le_trans h (half_larger top s.swing)) l) (thinned_again u top h l)
   where
     go : (t v : Bool) → le_z (pos u) s.swing ≡ t → le_z (pos (half_of top)) s.swing ≡ v
         → thinned (larger top s.swing) (at_least u l) ≡ thinned (larger top s.swing) l
@@ -143,30 +143,30 @@ thinned-again u top h (s ∷ l) =
     go false false d e p q = q
 
 -- the first of them has its record
-pub thinned-first : (top : ℤ) (l m : List Swing) (s : Swing) → at_least (half_of top) l ≡ s ∷ m
+pub thinned_first : (top : ℤ) (l m : List Swing) (s : Swing) → at_least (half_of top) l ≡ s ∷ m
     → thinned top (s ∷ m) ≡ s ∷ thinned (larger top s.swing) m
 unfolding thinned
-thinned-first top l m s e =
+thinned_first top l m s e =
     ap (onward top s m) (subst (Each (λ (s : Swing). le_z (pos (half_of top)) s.swing ≡ true)) e
-    (at-least-each (half_of top) l)).0
+    (at_least_each (half_of top) l)).0
 
-pub thinned-few : (top : ℤ) (l : List Swing) → length (thinned top l) ≤ length l
+pub thinned_few : (top : ℤ) (l : List Swing) → length (thinned top l) ≤ length l
 unfolding thinned
-thinned-few top [] = zero-le
-thinned-few top (s ∷ l) =
-    go (le_z (pos (half_of top)) s.swing) (thinned-few (larger top s.swing) l) (thinned-few top l)
+thinned_few top [] = zero-le
+thinned_few top (s ∷ l) =
+    go (le_z (pos (half_of top)) s.swing) (thinned_few (larger top s.swing) l) (thinned_few top l)
   where
     go : (t : Bool) → length (thinned (larger top s.swing) l) ≤ length l → length (thinned top l) ≤ length l
         → length (onward top s l t) ≤ suc (length l)
     go true p q = omega arith
     go false p q = omega arith
 
-pub thinned-each : (P : Swing → Type 0) (top : ℤ) (l : List Swing) → Each P l → Each P (thinned top l)
+pub thinned_each : (P : Swing → Type 0) (top : ℤ) (l : List Swing) → Each P l → Each P (thinned top l)
 unfolding thinned
-thinned-each P top [] h = tt
-thinned-each P top (s ∷ l) h =
-    go (le_z (pos (half_of top)) s.swing) (thinned-each P (larger top s.swing) l h.1)
-    (thinned-each P top l h.1)
+thinned_each P top [] h = tt
+thinned_each P top (s ∷ l) h =
+    go (le_z (pos (half_of top)) s.swing) (thinned_each P (larger top s.swing) l h.1)
+    (thinned_each P top l h.1)
   where
     go : (t : Bool) → Each P (thinned (larger top s.swing) l) → Each P (thinned top l) → Each P (onward top s l t)
     go true p q = (h.0, p)

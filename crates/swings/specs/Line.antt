@@ -6,7 +6,7 @@ use Rattle.image.specs.Picture.{pixel}
 use Rattle.image.specs.Refusal.{Laid}
 use Rattle.raster.specs.declared.direction.RasterDirection4.{RasterDirection4}
 use Rattle.raster.specs.declared.direction.RasterDirection4.TheVariants.{Horizontal, DownRight, Vertical, DownLeft}
-use Rattle.raster.specs.Lines.{lineCount, lineLength, colAt, row_at, placeStep}
+use Rattle.raster.specs.Lines.{line_count, line_length, col_at, row_at, place_step}
 use Rattle.swings.specs.declared.scan.ScanPlan.{ScanPlan}
 
 -- some lines: their samples, how many samples each has, and how many lines there are
@@ -18,21 +18,21 @@ pub record Lines : Type 0 where
 -- the first lines of a direction in a picture w by h: sample i of line k is the pixel at its place i
 abbrev pub first_lines : ℕ → List ℕ → RasterDirection4 → ℕ → ℕ → ℕ → Lines
 first_lines count bytes d w h stride = record {
-  line = λ k i. pixel bytes stride (colAt d w k i) (row_at d w k i);
-  len = λ k. lineLength d w h k;
+  line = λ k i. pixel bytes stride (col_at d w k i) (row_at d w k i);
+  len = λ k. line_length d w h k;
   count = count;
 }
 
 -- all lines
 abbrev pub lines_of : List ℕ → RasterDirection4 → ℕ → ℕ → ℕ → Lines
-lines_of bytes d w h stride = first_lines (lineCount d w h) bytes d w h stride
+lines_of bytes d w h stride = first_lines (line_count d w h) bytes d w h stride
 
 -- document 01, Length: how long a step of a line is, 1.0 or (the double) 1.4142135623730951 on diagonals
-abbrev pub stepPixels : RasterDirection4 → Float
-stepPixels Horizontal = of_bits binary64 0x3FF0_0000_0000_0000
-stepPixels DownRight = of_bits binary64 0x3FF6_A09E_667F_3BCD
-stepPixels Vertical = of_bits binary64 0x3FF0_0000_0000_0000
-stepPixels DownLeft = of_bits binary64 0x3FF6_A09E_667F_3BCD
+abbrev pub step_pixels : RasterDirection4 → Float
+step_pixels Horizontal = of_bits binary64 0x3FF0_0000_0000_0000
+step_pixels DownRight = of_bits binary64 0x3FF6_A09E_667F_3BCD
+step_pixels Vertical = of_bits binary64 0x3FF0_0000_0000_0000
+step_pixels DownLeft = of_bits binary64 0x3FF6_A09E_667F_3BCD
 
 -- ---- what the scan's functions cite
 
@@ -41,12 +41,12 @@ abbrev pub sample : List ℕ → ℕ → ℕ → ℕ → ℕ
 sample bytes start step i = get_or bytes (start + i * step) 0
 
 -- the lines that a scan goes over
-abbrev pub linesOn : List ℕ → ScanPlan → Lines
-linesOn bytes c = first_lines c.count bytes c.direction c.width c.height c.stride
+abbrev pub lines_on : List ℕ → ScanPlan → Lines
+lines_on bytes c = first_lines c.count bytes c.direction c.width c.height c.stride
 
 -- it goes over all lines of an accepted picture, or over none
 pub record ValidPlan (c : ScanPlan) (len : ℕ) : Type 0 where
   pub laid : Laid len c.width c.height c.stride
-  pub step_is : 0 < c.count → c.step ≡ placeStep c.direction c.stride
-  pub count-is : 0 < c.count → c.count ≡ lineCount c.direction c.width c.height
-  pub pixel-is : c.pixel ≡ stepPixels c.direction
+  pub step_is : 0 < c.count → c.step ≡ place_step c.direction c.stride
+  pub count_is : 0 < c.count → c.count ≡ line_count c.direction c.width c.height
+  pub pixel_is : c.pixel ≡ step_pixels c.direction

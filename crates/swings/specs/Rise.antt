@@ -9,20 +9,20 @@ use Rattle.swings.specs.declared.rises.Rise.{Rise}
 use Rattle.swings.specs.declared.rises.Rise.TheVariants.{Found, Nothing}
 
 -- how far apart two samples are
-abbrev pub swingOf : ℕ → ℕ → ℕ
-swingOf va vb = cond (ltb va vb) (vb - va) (va - vb)
+abbrev pub swing_of : ℕ → ℕ → ℕ
+swing_of va vb = cond (ltb va vb) (vb - va) (va - vb)
 
 -- the level that lies `part` of the way from va to vb
-unfoldable pub levelOf : ℕ → ℕ → Float → Float
-levelOf va vb part = add binary64 (of_int binary64 (pos va)) (mul binary64 part (of_int binary64 (pos vb -ℤ pos va)))
+unfoldable pub level_of : ℕ → ℕ → Float → Float
+level_of va vb part = add binary64 (of_int binary64 (pos va)) (mul binary64 part (of_int binary64 (pos vb -ℤ pos va)))
 
 -- the level lies between two samples, in the run's direction
-unfoldable pub crossedAt : Bool → Float → Float → Float → Bool
-crossedAt rising level v0 v1 = cond rising (le v0 level && le level v1) (le v1 level && le level v0)
+unfoldable pub crossed_at : Bool → Float → Float → Float → Bool
+crossed_at rising level v0 v1 = cond rising (le v0 level && le level v1) (le v1 level && le level v0)
 
 -- where between sample i, v0, and the next, v1, the level lies
-unfoldable pub placeAt : ℕ → Float → Float → Float → Float
-placeAt i level v0 v1 =
+unfoldable pub place_at : ℕ → Float → Float → Float → Float
+place_at i level v0 v1 =
     add binary64 (of_int binary64 (pos i))
     (cond (eq v1 v0) (of_bits binary64 0) (div binary64 (sub binary64 level v0) (sub binary64 v1 v0)))
 
@@ -35,14 +35,14 @@ unfoldable pub crossing_of : (ℕ → ℕ) → Bool → Float → ℕ → ℕ �
 crossing_of x rising level i zero = Unset
 crossing_of x rising level i (suc k) =
     let later = crossing_of x rising level (suc i) k in
-    cond (crossedAt rising level (double x i) (double x (suc i)))
-    (At (placeAt i level (double x i) (double x (suc i)))) later
+    cond (crossed_at rising level (double x i) (double x (suc i)))
+    (At (place_at i level (double x i) (double x (suc i)))) later
 
 -- the distance of the two crossings, if the second lies after the first
-unfoldable pub riseBetween : Mark → Mark → ℕ → Rise
-riseBetween Unset high swing = Nothing
-riseBetween (At p0) Unset swing = Nothing
-riseBetween (At p0) (At p1) swing =
+unfoldable pub rise_between : Mark → Mark → ℕ → Rise
+rise_between Unset high swing = Nothing
+rise_between (At p0) Unset swing = Nothing
+rise_between (At p0) (At p1) swing =
     cond (lt p0 p1) (Found (record { width = sub binary64 p1 p0; swing = pos swing })) Nothing
 
 -- the doubles 0.2 and 0.8
@@ -53,9 +53,9 @@ abbrev pub high_part : Float
 high_part = of_bits binary64 0x3FE999999999999A
 
 -- the rise of the run from sample a to sample b, for a least swing
-unfoldable pub riseOf : ℕ → (ℕ → ℕ) → ℕ → ℕ → Rise
-riseOf least x a b =
+unfoldable pub rise_of : ℕ → (ℕ → ℕ) → ℕ → ℕ → Rise
+rise_of least x a b =
     let rising = ltb (x a) (x b) in
-    let low = crossing_of x rising (levelOf (x a) (x b) low_part) a (b - a) in
-    let high = crossing_of x rising (levelOf (x a) (x b) high_part) a (b - a) in
-    cond (ltb (swingOf (x a) (x b)) least) Nothing (riseBetween low high (swingOf (x a) (x b)))
+    let low = crossing_of x rising (level_of (x a) (x b) low_part) a (b - a) in
+    let high = crossing_of x rising (level_of (x a) (x b) high_part) a (b - a) in
+    cond (ltb (swing_of (x a) (x b)) least) Nothing (rise_between low high (swing_of (x a) (x b)))

@@ -4,9 +4,9 @@ use Rattle.std.specs.Prelude.{ℕ, ◌+◌, ◌-◌, ◌*◌, ◌/◌, ◌≤◌
 use Rattle.std.specs.Int.Signed.{le_z}
 use Rattle.std.specs.Float.{binary64}
 use Rattle.std.specs.Float.Ieee.{of_bits, lt}
-use Rattle.numbers.specs.Scalar.{clampByte}
+use Rattle.numbers.specs.Scalar.{clamp_byte}
 use Rattle.raster.specs.declared.lines.ScanLine.{ScanLine}
-use Rattle.raster.specs.Lines.{scanLineAt}
+use Rattle.raster.specs.Lines.{scan_line_at}
 use Rattle.swings.specs.declared.Swing.{Swing}
 use Rattle.swings.specs.declared.scan.OnLine.{OnLine}
 use Rattle.swings.specs.declared.scan.OnLine.TheVariants.{Next, End}
@@ -16,47 +16,47 @@ use Rattle.swings.specs.declared.scan.NextSwing.{NextSwing}
 use Rattle.swings.specs.declared.scan.Span.{Span}
 use Rattle.swings.specs.declared.scan.Scan.{Scan}
 use Rattle.swings.specs.declared.scan.Scanned.{Scanned}
-use Rattle.swings.specs.Line.{Lines, linesOn}
-use Rattle.swings.specs.Swings.{lineSwings, swingsFrom, larger, strongest}
+use Rattle.swings.specs.Line.{Lines, lines_on}
+use Rattle.swings.specs.Swings.{line_swings, swings_from, larger, strongest}
 
 -- the swings of a line from a sample on: the next one and those after it, or none
-abbrev pub remainingOnLine : ℕ → Float → (ℕ → ℕ) → ℕ → OnLine → List Swing
-remainingOnLine least pixel x n (Next s b) = s ∷ lineSwings least pixel x n b
-remainingOnLine least pixel x n End = []
+abbrev pub remaining_on_line : ℕ → Float → (ℕ → ℕ) → ℕ → OnLine → List Swing
+remaining_on_line least pixel x n (Next s b) = s ∷ line_swings least pixel x n b
+remaining_on_line least pixel x n End = []
 
 -- ---- the scan
 
 -- line k of the plan, or, after the last one, none
-abbrev pub lineOn : ScanPlan → ℕ → ScanLine
-lineOn c k =
-    cond (ltb k c.count) (scanLineAt c.direction c.width c.height k) (record { col = 0; row = 0; len = 0 })
+abbrev pub line_on : ScanPlan → ℕ → ScanLine
+line_on c k =
+    cond (ltb k c.count) (scan_line_at c.direction c.width c.height k) (record { col = 0; row = 0; len = 0 })
 
 -- the line before the one to be opened next is open, from where its first sample stands on
 pub record Open (c : ScanPlan) (p : Place) : Type 0 where
   pub shut : p.line ≡ 0 → (p.at ≡ 0) × (p.start ≡ 0) × (p.len ≡ 0)
-  pub start_is : 0 < p.line → p.start ≡ (lineOn c (p.line - 1)).row * c.stride + (lineOn c (p.line - 1)).col
-  pub len_is : 0 < p.line → p.len ≡ (lineOn c (p.line - 1)).len
+  pub start_is : 0 < p.line → p.start ≡ (line_on c (p.line - 1)).row * c.stride + (line_on c (p.line - 1)).col
+  pub len_is : 0 < p.line → p.len ≡ (line_on c (p.line - 1)).len
 
 -- the swings from a place on
-abbrev pub swingsAt : ℕ → Float → Lines → Place → List Swing
-swingsAt least pixel lines p = swingsFrom least pixel lines (p.line - 1) p.at (lines.count - (p.line - 1))
+abbrev pub swings_at : ℕ → Float → Lines → Place → List Swing
+swings_at least pixel lines p = swings_from least pixel lines (p.line - 1) p.at (lines.count - (p.line - 1))
 
 -- the next one and those from the next place on, or none
-abbrev pub remainingSwings : ℕ → Float → Lines → NextSwing → List Swing
-remainingSwings least pixel lines r = cond r.found (r.swing ∷ swingsAt least pixel lines r.next) []
+abbrev pub remaining_swings : ℕ → Float → Lines → NextSwing → List Swing
+remaining_swings least pixel lines r = cond r.found (r.swing ∷ swings_at least pixel lines r.next) []
 
 pub record FindsNext (bytes : List ℕ) (c : ScanPlan) (from : Place) (r : NextSwing) : Type 0 where
-  pub list : swingsAt c.minimum_amplitude c.pixel (linesOn bytes c) from
-      ≡ remainingSwings c.minimum_amplitude c.pixel (linesOn bytes c) r
+  pub list : swings_at c.minimum_amplitude c.pixel (lines_on bytes c) from
+      ≡ remaining_swings c.minimum_amplitude c.pixel (lines_on bytes c) r
   pub opened : r.found ≡ true → Open c r.next
 
 -- half of the strongest swing so far, rounded up
 unfoldable pub half_of : ℤ → ℕ
-half_of top = clampByte top - clampByte top / 2
+half_of top = clamp_byte top - clamp_byte top / 2
 
 -- the least swing that is worth a record: the caller's, or half of the strongest so far
-abbrev pub raisedTo : ℕ → ℤ → ℕ
-raisedTo least top = max least (half_of top)
+abbrev pub raised_to : ℕ → ℤ → ℕ
+raised_to least top = max least (half_of top)
 
 -- without the swings below half of the strongest before them: none of these stays
 unfoldable pub thinned : ℤ → List Swing → List Swing
@@ -65,7 +65,7 @@ thinned top (s ∷ l) = cond (le_z (pos (half_of top)) s.swing) (s ∷ thinned (
 
 -- the swings that are left to be stored
 abbrev pub rest : List ℕ → ScanPlan → Scan → List Swing
-rest bytes c s = thinned s.strongest (swingsAt c.minimum_amplitude c.pixel (linesOn bytes c) s.place)
+rest bytes c s = thinned s.strongest (swings_at c.minimum_amplitude c.pixel (lines_on bytes c) s.place)
 
 -- ---- what the widths lie between
 
@@ -76,18 +76,18 @@ abbrev pub greater : Float → Float → Float
 greater a b = cond (lt a b) b a
 
 -- one width more
-abbrev pub widenedBy : Span → Float → Span
-widenedBy span w = record { least = lesser span.least w; greatest = greater span.greatest w }
+abbrev pub widened_by : Span → Float → Span
+widened_by span w = record { least = lesser span.least w; greatest = greater span.greatest w }
 
 -- those of a list
-abbrev pub spanFrom : Span → List Swing → Span
-spanFrom span [] = span
-spanFrom span (s ∷ l) = spanFrom (widenedBy span s.width) l
+abbrev pub span_from : Span → List Swing → Span
+span_from span [] = span
+span_from span (s ∷ l) = span_from (widened_by span s.width) l
 
 -- .. from the ends 2048.0 and 0.5, which stand for no width at all
 abbrev pub span_of : List Swing → Span
 span_of l =
-    spanFrom (record {
+    span_from (record {
       least = of_bits binary64 0x40A0_0000_0000_0000;
       greatest =
           of_bits binary64 0x3FE0_0000_0000_0000;
@@ -114,7 +114,7 @@ pub record Goes (bytes : List ℕ) (c : ScanPlan) (s : Scan) (r : Scanned) : Typ
   pub at : r.at ≡ s.count
   pub count : r.next.count ≡ s.count + 1
   pub top : r.next.strongest ≡ larger s.strongest r.swing.swing
-  pub span : r.next.span ≡ widenedBy s.span r.swing.width
+  pub span : r.next.span ≡ widened_by s.span r.swing.width
   pub opened : Open c r.next.place
 
 -- the answer is that there is none

@@ -7,39 +7,39 @@ use Rattle.swings.specs.declared.Swing.{Swing}
 use Rattle.swings.specs.declared.rises.Rise.{Rise}
 use Rattle.swings.specs.declared.rises.Rise.TheVariants.{Found, Nothing}
 use Rattle.swings.specs.Line.{Lines}
-use Rattle.swings.specs.Rise.{riseOf}
-use Rattle.swings.specs.Runs.{Run, runsAfter}
+use Rattle.swings.specs.Rise.{rise_of}
+use Rattle.swings.specs.Runs.{Run, runs_after}
 
 -- the width in pixels, in a direction whose steps are `pixel` long
-abbrev pub scaledBy : Float → Swing → Swing
-scaledBy pixel s = record { width = mul binary64 s.width pixel; swing = s.swing }
+abbrev pub scaled_by : Float → Swing → Swing
+scaled_by pixel s = record { width = mul binary64 s.width pixel; swing = s.swing }
 
 -- a run's swing, if it has a rise, in front of others
-abbrev pub withRise : Float → Rise → List Swing → List Swing
-withRise pixel (Found s) others = scaledBy pixel s ∷ others
-withRise pixel Nothing others = others
+abbrev pub with_rise : Float → Rise → List Swing → List Swing
+with_rise pixel (Found s) others = scaled_by pixel s ∷ others
+with_rise pixel Nothing others = others
 
 -- the swings of some runs of a line
-unfoldable pub swingsOf : ℕ → Float → (ℕ → ℕ) → List Run → List Swing
-unfolding riseOf
-swingsOf least pixel x [] = []
-swingsOf least pixel x (r ∷ rs) = withRise pixel (riseOf least x r.first r.last) (swingsOf least pixel x rs)
+unfoldable pub swings_of : ℕ → Float → (ℕ → ℕ) → List Run → List Swing
+unfolding rise_of
+swings_of least pixel x [] = []
+swings_of least pixel x (r ∷ rs) = with_rise pixel (rise_of least x r.first r.last) (swings_of least pixel x rs)
 
 -- the swings of a line of n samples, from the run that starts at sample a on
-unfoldable pub lineSwings : ℕ → Float → (ℕ → ℕ) → ℕ → ℕ → List Swing
-unfolding swingsOf runsAfter
-lineSwings least pixel x n a = swingsOf least pixel x (runsAfter x n a)
+unfoldable pub line_swings : ℕ → Float → (ℕ → ℕ) → ℕ → ℕ → List Swing
+unfolding swings_of runs_after
+line_swings least pixel x n a = swings_of least pixel x (runs_after x n a)
 
 -- the swings of j lines from line k on, of line k from the run that starts at sample a on
-unfoldable pub swingsFrom : ℕ → Float → Lines → ℕ → ℕ → ℕ → List Swing
-unfolding lineSwings
-swingsFrom least pixel lines k a zero = []
-swingsFrom least pixel lines k a (suc j) =
-    lineSwings least pixel (lines.line k) (lines.len k) a ++ swingsFrom least pixel lines (suc k) 0 j
+unfoldable pub swings_from : ℕ → Float → Lines → ℕ → ℕ → ℕ → List Swing
+unfolding line_swings
+swings_from least pixel lines k a zero = []
+swings_from least pixel lines k a (suc j) =
+    line_swings least pixel (lines.line k) (lines.len k) a ++ swings_from least pixel lines (suc k) 0 j
 
 -- all swings of the lines
 abbrev pub swings : ℕ → Float → Lines → List Swing
-swings least pixel lines = swingsFrom least pixel lines 0 0 lines.count
+swings least pixel lines = swings_from least pixel lines 0 0 lines.count
 
 -- the larger of two swings
 abbrev pub larger : ℤ → ℤ → ℤ

@@ -1,8 +1,8 @@
 // The rise of one monotonic run of a line (document 01, Length; 001's `rise_of`), operation by operation.
 // Sample i of a line stands at start + i * step of the bytes.
 ghost use Rattle.std.specs.Prelude.{◌≡◌, ◌+◌, ◌-◌, ◌*◌, ◌≤◌, ◌<◌, ◌^◌, length, pos, ◌-ℤ◌};
-ghost use Rattle.swings.specs.Rise.{double, swingOf, crossedAt, placeAt, levelOf, crossing_of, riseOf};
-ghost use Rattle.swings.specs.Rise.{riseBetween};
+ghost use Rattle.swings.specs.Rise.{double, swing_of, crossed_at, place_at, level_of, crossing_of, rise_of};
+ghost use Rattle.swings.specs.Rise.{rise_between};
 ghost use Rattle.swings.specs.Line.{sample};
 
 use crate::Swing;
@@ -37,7 +37,7 @@ fn double_at(data: &[u8], start: usize, step: usize, i: usize) -> f64
 
 // How far apart two samples are.
 pub(crate) fn swing_of(va: u8, vb: u8) -> u8
-    ensures { result ≡ swingOf va vb }
+    ensures { result ≡ swing_of va vb }
 {
     if va < vb { vb - va } else { va - vb }
 }
@@ -50,14 +50,14 @@ pub(crate) fn amplitude(va: u8, vb: u8) -> i32
 
 // The level that lies `part` of the way from va to vb.
 fn level_of(va: u8, vb: u8, part: f64) -> f64
-    ensures { result ≡ levelOf va vb part }
+    ensures { result ≡ level_of va vb part }
 {
     (va as f64) + part * (amplitude(va, vb) as f64)
 }
 
 // Whether the level lies between two samples, in the run's direction.
 fn crossed(rising: bool, level: f64, v0: f64, v1: f64) -> bool
-    ensures { result ≡ crossedAt rising level v0 v1 }
+    ensures { result ≡ crossed_at rising level v0 v1 }
 {
     if rising {
         v0 <= level && level <= v1
@@ -70,7 +70,7 @@ fn crossed(rising: bool, level: f64, v0: f64, v1: f64) -> bool
 // usize in five.
 fn place(i: usize, level: f64, v0: f64, v1: f64) -> f64
     requires { i ≤ 2 ^ 53 }
-    ensures { result ≡ placeAt i level v0 v1 }
+    ensures { result ≡ place_at i level v0 v1 }
 {
     let at = (i as i64) as f64;
     if v1 == v0 {
@@ -108,7 +108,7 @@ fn crossing(
 
 // The two crossings' distance, if the second lies after the first.
 fn rise_between(low: Mark, high: Mark, swing: u8) -> Rise
-    ensures { result ≡ riseBetween low high swing }
+    ensures { result ≡ rise_between low high swing }
 {
     let Mark::At(p0) = low else {
         return Rise::Nothing;
@@ -136,7 +136,7 @@ pub(crate) fn rise_of(
     minimum_amplitude: u8,
 ) -> Rise
     requires { (a ≤ b) × (b ≤ 2 ^ 53) × (start + b * step < length «data».now) }
-    ensures { result ≡ riseOf minimum_amplitude (sample «data».now start step) a b }
+    ensures { result ≡ rise_of minimum_amplitude (sample «data».now start step) a b }
 {
     let va = sample_at(data, start, step, a);
     let vb = sample_at(data, start, step, b);

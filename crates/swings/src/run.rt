@@ -3,7 +3,7 @@
 ghost use Rattle.std.specs.Prelude.{◌≡◌, cond, not, ◌&&◌, ◌+◌, ◌*◌, ◌≤◌, ◌<◌, ltb, pos, nat_abs, ◌*ℤ◌, length};
 ghost use Rattle.std.specs.Int.Signed.{lt_z};
 ghost use Rattle.swings.specs.Line.{sample};
-ghost use Rattle.swings.specs.Runs.{slopeBetween, turnsAt, slopeOf, LevelTo, SlopeEnd, RunTo, SteepFrom};
+ghost use Rattle.swings.specs.Runs.{slope_between, turns_at, slope_of, LevelTo, SlopeEnd, RunTo, SteepFrom};
 
 use crate::rises::{amplitude, sample_at, swing_of};
 
@@ -32,7 +32,7 @@ fn level_end(data: &[u8], start: usize, step: usize, last: usize, a: usize) -> u
 
 // Whether a run that rises, or falls, ends before the step from v to w.
 fn turns(rising: bool, v: u8, w: u8) -> bool
-    ensures { result ≡ turnsAt (slopeOf rising) (slopeBetween v w) }
+    ensures { result ≡ turns_at (slope_of rising) (slope_between v w) }
 {
     if rising { w < v } else { v < w }
 }

@@ -1,10 +1,10 @@
 // The scan of a picture's lines for swings (document 01, Length): from a place to the next run that has a rise.
 ghost use Rattle.std.specs.Prelude.{◌≡◌, ◌+◌, ◌-◌, ◌*◌, ◌≤◌, ◌<◌, ◌^◌, length};
-ghost use Rattle.raster.specs.Lines.{Sides, lineCount};
+ghost use Rattle.raster.specs.Lines.{Sides, line_count};
 ghost use Rattle.swings.specs.Line.{sample, ValidPlan};
-ghost use Rattle.swings.specs.Swings.{scaledBy, lineSwings, larger};
-ghost use Rattle.swings.specs.Scan.{remainingOnLine, lineOn, Open, FindsNext, raisedTo, lesser, greater};
-ghost use Rattle.swings.specs.Scan.{widenedBy, Scans, begun};
+ghost use Rattle.swings.specs.Swings.{scaled_by, line_swings, larger};
+ghost use Rattle.swings.specs.Scan.{remaining_on_line, line_on, Open, FindsNext, raised_to, lesser, greater};
+ghost use Rattle.swings.specs.Scan.{widened_by, Scans, begun};
 
 use crate::Swing;
 use crate::rises::{Rise, rise_of};
@@ -80,7 +80,7 @@ pub struct Scanned {
 }
 
 fn scaled(s: Swing, pixel: f64) -> Swing
-    ensures { result ≡ scaledBy pixel s }
+    ensures { result ≡ scaled_by pixel s }
 {
     Swing {
         width: s.width * pixel,
@@ -99,8 +99,8 @@ fn next_on_line(
     minimum_amplitude: u8,
 ) -> OnLine
     requires { (n ≤ 2 ^ 53) × (start + (n - 1) * step < length «data».now) }
-    ensures { lineSwings minimum_amplitude pixel (sample «data».now start step) n from
-        ≡ remainingOnLine minimum_amplitude pixel (sample «data».now start step) n result }
+    ensures { line_swings minimum_amplitude pixel (sample «data».now start step) n from
+        ≡ remaining_on_line minimum_amplitude pixel (sample «data».now start step) n result }
 {
     if n < 3 {
         return OnLine::End;
@@ -122,8 +122,8 @@ fn next_on_line(
 // Line number `line` of the plan; after the last one, a line without samples.
 fn line_or_none(plan: ScanPlan, line: usize) -> ScanLine
     requires { Sides plan.width plan.height
-        × (line < plan.count → line < lineCount plan.direction plan.width plan.height) }
-    ensures { result ≡ lineOn plan line }
+        × (line < plan.count → line < line_count plan.direction plan.width plan.height) }
+    ensures { result ≡ line_on plan line }
 {
     let direction = plan.direction;
     if line < plan.count {
@@ -202,7 +202,7 @@ fn wider(a: f64, b: f64) -> f64
 }
 
 fn widened(span: Span, width: f64) -> Span
-    ensures { result ≡ widenedBy span width }
+    ensures { result ≡ widened_by span width }
 {
     Span {
         least: narrower(span.least, width),
@@ -212,7 +212,7 @@ fn widened(span: Span, width: f64) -> Span
 
 // The least swing worth storing: one below half of the strongest so far would not stay.
 fn raised(least: u8, strongest: i32) -> u8
-    ensures { result ≡ raisedTo least strongest }
+    ensures { result ≡ raised_to least strongest }
 {
     let top = clamp_u8(strongest);
     let half = top - top / 2;

@@ -1,5 +1,5 @@
--- What the floor's test says of the eigenvalues: that R, the root of D² + 4C², reaches the floor (`reached-iff`), and,
--- where the eigenvalues are fractions, that 1 minus the smaller over the larger does (`eigenvalues-iff`).
+-- What the floor's test says of the eigenvalues: that R, the root of D² + 4C², reaches the floor (`reached_iff`), and,
+-- where the eigenvalues are fractions, that 1 minus the smaller over the larger does (`eigenvalues_iff`).
 use mathlib.Core.Bool.{Bool, true, false}
 use mathlib.Core.Logic.{◌↔◌}
 use mathlib.Core.Path.{◌≡◌, refl, sym, ap, ap₂, ◌∙◌}
@@ -10,12 +10,12 @@ use native.Mathlib.Omega.{arith}
 use borrow.Author.Tests.{leb-true, leb-false, le-leb}
 use lib.Dec.{leb}
 use lib.IntN.{ℤ, pos, negsuc, nat_abs, ◌+ℤ◌, ◌-ℤ◌, ◌*ℤ◌}
-use Rattle.numbers.proofs.Int.Ring.{zring, z-ind, ⊖-same, pos_inj, sub-of-add}
+use Rattle.numbers.proofs.Int.Ring.{zring, z_ind, ⊖-same, pos_inj, sub_of_add}
 use Rattle.numbers.proofs.Int.Size.{nat_abs_mul}
-use Rattle.tensor.specs.Confidence.{maxFloor, squareGap, at_least, Reached, Eigenvalues}
-use Rattle.tensor.proofs.Floor.{square, square-mul}
+use Rattle.tensor.specs.Confidence.{max_floor, square_gap, at_least, Reached, Eigenvalues}
+use Rattle.tensor.proofs.Floor.{square, square_mul}
 
-module _ (c : ℕ) (A C E : ℤ) (most : c ≤ maxFloor) where
+module _ (c : ℕ) (A C E : ℤ) (most : c ≤ max_floor) where
   abbrev k : ℕ
   k = 512 - c
 
@@ -24,7 +24,7 @@ module _ (c : ℕ) (A C E : ℤ) (most : c ≤ maxFloor) where
 
   -- R²
   abbrev rr : ℕ
-  rr = squareGap A C E
+  rr = square_gap A C E
 
   -- 512 p is (512 − c) p and c p
   parts : (p : ℕ) → 512 * p ≡ k * p + c * p
@@ -37,7 +37,7 @@ module _ (c : ℕ) (A C E : ℤ) (most : c ≤ maxFloor) where
         p = c * t;
         q = k;
         some = omega arith;
-        at_most = rw (square-mul c t) (leb-true (c ^ 2 * t ^ 2) (k ^ 2 * rr) e);
+        at_most = rw (square_mul c t) (leb-true (c ^ 2 * t ^ 2) (k ^ 2 * rr) e);
         enough =
             let same : c * (t * k) ≡ k * (c * t) = simp (mul_assoc, mul_comm, mul_left_comm) refl in
             omega (arith, parts (c * t), mul-add c (t * k) (c * t), same);
@@ -52,18 +52,18 @@ module _ (c : ℕ) (A C E : ℤ) (most : c ≤ maxFloor) where
       let same : c * (t * q) ≡ q * (c * t) = simp (mul_assoc, mul_comm, mul_left_comm) refl in
       omega (arith, parts p, mul-add c (t * q) p, same, r.enough) in
       let squared : q ^ 2 * (c ^ 2 * t ^ 2) ≤ k ^ 2 * p ^ 2 =
-      rw (← square-mul c t, ← square-mul q (c * t), ← square-mul k p) (pow-le-pow_left less 2) in
+      rw (← square_mul c t, ← square_mul q (c * t), ← square_mul k p) (pow-le-pow_left less 2) in
       let above : k ^ 2 * p ^ 2 ≤ k ^ 2 * (q ^ 2 * rr) = mul-le-mul_left (k ^ 2) r.at_most in
       let turned : k ^ 2 * (q ^ 2 * rr) ≡ q ^ 2 * (k ^ 2 * rr) = mul_left_comm (k ^ 2) (q ^ 2) rr in
       le-leb (c ^ 2 * t ^ 2) (k ^ 2 * rr)
       (le_of_mul-le-mul_left (le_trans squared (le_trans above (le_of_eq turned)))
       (rw (square q) (mul-pos r.some r.some)))
 
-  pub reached-iff : (at_least c A C E ≡ true) ↔ Reached c A C E
-  reached-iff = (reached, reaching)
+  pub reached_iff : (at_least c A C E ≡ true) ↔ Reached c A C E
+  reached_iff = (reached, reaching)
 
-root-le : {m n : ℕ} → m ^ 2 ≤ n ^ 2 → m ≤ n
-root-le {m} {n} h = go (leb m n) refl
+root_le : {m n : ℕ} → m ^ 2 ≤ n ^ 2 → m ≤ n
+root_le {m} {n} h = go (leb m n) refl
   where
     go : (b : Bool) → leb m n ≡ b → m ≤ n
     go true t = leb-true m n t
@@ -74,9 +74,9 @@ root-le {m} {n} h = go (leb m n) refl
 -- ---- eigenvalues that are fractions: the square of their difference is n² R²
 
 -- (A + E)² = (A − E)² + 4AE
-sum-square : (A E : ℤ) → (A +ℤ E) *ℤ (A +ℤ E) ≡ (A -ℤ E) *ℤ (A -ℤ E) +ℤ pos 4 *ℤ (A *ℤ E)
-sum-square =
-    z-ind _ λ a a'. z-ind _ λ e e'.
+sum_square : (A E : ℤ) → (A +ℤ E) *ℤ (A +ℤ E) ≡ (A -ℤ E) *ℤ (A -ℤ E) +ℤ pos 4 *ℤ (A *ℤ E)
+sum_square =
+    z_ind _ λ a a'. z_ind _ λ e e'.
     simp (zring, mul-add, add-mul)
     (omega (
       arith,
@@ -92,12 +92,12 @@ sum-square =
 -- with X = D², U = AE and W = C²
 combined : (M X U W : ℤ) → M *ℤ (X +ℤ pos 4 *ℤ U) -ℤ pos 4 *ℤ (M *ℤ (U -ℤ W)) ≡ M *ℤ (X +ℤ pos 4 *ℤ W)
 combined =
-    z-ind _ λ m m'. z-ind _ λ x x'. z-ind _ λ u u'. z-ind _ λ w w'.
+    z_ind _ λ m m'. z_ind _ λ x x'. z_ind _ λ u u'. z_ind _ λ w w'.
     simp (zring, mul-add) (omega (arith, ⊖-same))
 
-size-square : (z : ℤ) → pos (nat_abs z ^ 2) ≡ z *ℤ z
-size-square (pos n) = ap pos (square n)
-size-square (negsuc n) = ap pos (square (suc n))
+size_square : (z : ℤ) → pos (nat_abs z ^ 2) ≡ z *ℤ z
+size_square (pos n) = ap pos (square n)
+size_square (negsuc n) = ap pos (square (suc n))
 
 module _ {A C E : ℤ} {n smaller larger : ℕ} (e : Eigenvalues A C E n smaller larger) where
   abbrev gap : ℕ
@@ -123,23 +123,23 @@ module _ {A C E : ℤ} {n smaller larger : ℕ} (e : Eigenvalues A C E n smaller
             mul_comm g smaller,
           ))
 
-  gap_is : gap ^ 2 ≡ n ^ 2 * squareGap A C E
-  gap_is = pos_inj (sub-of-add (pos (gap ^ 2)) (pos (4 * (smaller * larger))) (ap pos squares)
+  gap_is : gap ^ 2 ≡ n ^ 2 * square_gap A C E
+  gap_is = pos_inj (sub_of_add (pos (gap ^ 2)) (pos (4 * (smaller * larger))) (ap pos squares)
       ∙ ap₂ ◌-ℤ◌ whole (ap (pos 4 *ℤ◌) part)
       ∙ combined (pos (n ^ 2)) ((A -ℤ E) *ℤ (A -ℤ E)) (A *ℤ E) (C *ℤ C)
-      ∙ sym (ap (pos (n ^ 2) *ℤ◌) (ap₂ ◌+ℤ◌ (size-square (A -ℤ E)) (ap (pos 4 *ℤ◌) (size-square C)))))
+      ∙ sym (ap (pos (n ^ 2) *ℤ◌) (ap₂ ◌+ℤ◌ (size_square (A -ℤ E)) (ap (pos 4 *ℤ◌) (size_square C)))))
     where
       whole : pos ((smaller + larger) ^ 2) ≡ pos (n ^ 2) *ℤ ((A -ℤ E) *ℤ (A -ℤ E) +ℤ pos 4 *ℤ (A *ℤ E))
       whole =
-          ap pos (ap (◌^ 2) trace-is ∙ square-mul n (nat_abs (A +ℤ E)))
-          ∙ ap (pos (n ^ 2) *ℤ◌) (size-square (A +ℤ E) ∙ sum-square A E)
+          ap pos (ap (◌^ 2) trace-is ∙ square_mul n (nat_abs (A +ℤ E)))
+          ∙ ap (pos (n ^ 2) *ℤ◌) (size_square (A +ℤ E) ∙ sum_square A E)
 
       part : pos (smaller * larger) ≡ pos (n ^ 2) *ℤ (A *ℤ E -ℤ C *ℤ C)
       part = e.determinant ∙ ap (λ (m : ℕ). pos m *ℤ (A *ℤ E -ℤ C *ℤ C)) (sym (square n))
 
   -- "1 minus the smaller over the larger eigenvalue, is at least c / 256"
-  pub eigenvalues-iff : (c : ℕ) → c ≤ maxFloor → (at_least c A C E ≡ true) ↔ (c * larger ≤ 256 * (larger - smaller))
-  eigenvalues-iff c most = (to, from)
+  pub eigenvalues_iff : (c : ℕ) → c ≤ max_floor → (at_least c A C E ≡ true) ↔ (c * larger ≤ 256 * (larger - smaller))
+  eigenvalues_iff c most = (to, from)
     where
       -- the sum and the difference are twice the larger
       twice : c * (smaller + larger) + c * gap ≡ 2 * (c * larger)
@@ -152,21 +152,21 @@ module _ {A C E : ℤ} {n smaller larger : ℕ} (e : Eigenvalues A C E n smaller
       to reached =
           let k = 512 - c in
           let t = nat_abs (A +ℤ E) in
-          let rr = squareGap A C E in
+          let rr = square_gap A C E in
           let at-least : n ^ 2 * (c ^ 2 * t ^ 2) ≤ n ^ 2 * (k ^ 2 * rr) =
           mul-le-mul_left (n ^ 2) (leb-true (c ^ 2 * t ^ 2) (k ^ 2 * rr) reached) in
           let left : (c * (n * t)) ^ 2 ≡ n ^ 2 * (c ^ 2 * t ^ 2) =
-          square-mul c (n * t) ∙ ap (c ^ 2 *◌) (square-mul n t) ∙ mul_left_comm (c ^ 2) (n ^ 2) (t ^ 2) in
+          square_mul c (n * t) ∙ ap (c ^ 2 *◌) (square_mul n t) ∙ mul_left_comm (c ^ 2) (n ^ 2) (t ^ 2) in
           let right : n ^ 2 * (k ^ 2 * rr) ≡ (k * gap) ^ 2 =
-          mul_left_comm (n ^ 2) (k ^ 2) rr ∙ ap (k ^ 2 *◌) (sym gap_is) ∙ sym (square-mul k gap) in
+          mul_left_comm (n ^ 2) (k ^ 2) rr ∙ ap (k ^ 2 *◌) (sym gap_is) ∙ sym (square_mul k gap) in
           let less : c * (n * t) ≤ k * gap =
-          root-le (le_trans (le_of_eq left) (le_trans at-least (le_of_eq right))) in
+          root_le (le_trans (le_of_eq left) (le_trans at-least (le_of_eq right))) in
           let sum : c * (n * t) ≡ c * (smaller + larger) = ap (c *◌) (sym trace-is) in
           omega (arith, twice, parts c A C E most gap)
 
       from : c * larger ≤ 256 * gap → at_least c A C E ≡ true
       from enough =
-          (reached-iff c A C E most).1
+          (reached_iff c A C E most).1
           (record {
             p = gap;
             q = n;

@@ -3,7 +3,7 @@
 use Rattle.std.specs.Prelude.{Bool, cond, ◌||◌, List, ◌≡◌, ℕ, zero, suc, ◌+◌, ◌-◌, ◌*◌, ◌≤◌, eqb, leb, ltb, ℤ, pos, nat_abs, ◌+ℤ◌, ◌-ℤ◌, ◌*ℤ◌, length, get_or}
 use Rattle.std.specs.Int.Signed.{le_z, lt_z}
 use Rattle.image.specs.Call.{Gray8, Decision, accepts, refuses, decided}
-use Rattle.image.specs.Refusal.{maxSide, layoutRefusal}
+use Rattle.image.specs.Refusal.{max_side, layout_refusal}
 use Rattle.image.specs.Picture.{pixel}
 use Rattle.numbers.specs.Sum.{total}
 use Rattle.raster.specs.declared.direction.RasterDirection4.{RasterDirection4}
@@ -21,72 +21,72 @@ use Rattle.tensor.specs.declared.direction.DirectionAnswer.TheVariants.{Directio
 abbrev pub smooth : ℕ → ℕ → ℕ → ℕ
 smooth u v w = u + 2 * v + w
 
-unfoldable pub gradientX : (ℕ → ℕ → ℕ) → ℕ → ℕ → ℤ
-gradientX p x y =
+unfoldable pub gradient_x : (ℕ → ℕ → ℕ) → ℕ → ℕ → ℤ
+gradient_x p x y =
     pos (smooth (p (x + 2) y) (p (x + 2) (y + 1)) (p (x + 2) (y + 2))) -ℤ pos
     (smooth (p x y) (p x (y + 1)) (p x (y + 2)))
 
-unfoldable pub gradientY : (ℕ → ℕ → ℕ) → ℕ → ℕ → ℤ
-gradientY p x y =
+unfoldable pub gradient_y : (ℕ → ℕ → ℕ) → ℕ → ℕ → ℤ
+gradient_y p x y =
     pos (smooth (p x (y + 2)) (p (x + 1) (y + 2)) (p (x + 2) (y + 2))) -ℤ pos
     (smooth (p x y) (p (x + 1) y) (p (x + 2) y))
 
 -- ---- the sums: a row of width w has w − 2 interior pixels, a picture of height h has h − 2 such rows
 
 -- of u × v along row y + 1
-unfoldable pub rowSum : (ℕ → ℕ → ℤ) → (ℕ → ℕ → ℤ) → ℕ → ℕ → ℤ
-rowSum u v w y = total (λ x. u x y *ℤ v x y) 0 (w - 2)
+unfoldable pub row_sum : (ℕ → ℕ → ℤ) → (ℕ → ℕ → ℤ) → ℕ → ℕ → ℤ
+row_sum u v w y = total (λ x. u x y *ℤ v x y) 0 (w - 2)
 
 -- of u × v over all
-unfoldable pub interiorSum : (ℕ → ℕ → ℤ) → (ℕ → ℕ → ℤ) → ℕ → ℕ → ℤ
-interiorSum u v w h = total (rowSum u v w) 0 (h - 2)
+unfoldable pub interior_sum : (ℕ → ℕ → ℤ) → (ℕ → ℕ → ℤ) → ℕ → ℕ → ℤ
+interior_sum u v w h = total (row_sum u v w) 0 (h - 2)
 
 -- A = sum of gx², C = sum of gx × gy, E = sum of gy²
-unfoldable pub tensorSums : (ℕ → ℕ → ℕ) → ℕ → ℕ → TensorSums
-tensorSums p w h =
+unfoldable pub tensor_sums : (ℕ → ℕ → ℕ) → ℕ → ℕ → TensorSums
+tensor_sums p w h =
     record {
-      a = interiorSum (gradientX p) (gradientX p) w h;
-      c = interiorSum (gradientX p) (gradientY p) w h;
-      e = interiorSum (gradientY p) (gradientY p) w h;
+      a = interior_sum (gradient_x p) (gradient_x p) w h;
+      c = interior_sum (gradient_x p) (gradient_y p) w h;
+      e = interior_sum (gradient_y p) (gradient_y p) w h;
     }
 
 -- ---- the direction, D = A − E
 
 -- "A side below 3, or A + E = 0": no interior pixel, or no gradient
-abbrev pub noDirection : ℕ → ℕ → ℤ → ℤ → Bool
-noDirection w h A E = ltb w 3 || ltb h 3 || eqb (nat_abs (A +ℤ E)) 0
+abbrev pub no_direction : ℕ → ℕ → ℤ → ℤ → Bool
+no_direction w h A E = ltb w 3 || ltb h 3 || eqb (nat_abs (A +ℤ E)) 0
 
 -- There: Horizontal. If 2|C| ≤ |D|: Vertical for D ≥ 0, else Horizontal. Otherwise DownLeft for C > 0, DownRight for
 -- C < 0.
-unfoldable pub tensorDirection : ℕ → ℕ → ℤ → ℤ → ℤ → RasterDirection4
-tensorDirection w h A C E =
-    cond (noDirection w h A E) Horizontal
+unfoldable pub tensor_direction : ℕ → ℕ → ℤ → ℤ → ℤ → RasterDirection4
+tensor_direction w h A C E =
+    cond (no_direction w h A E) Horizontal
     (cond (leb (2 * nat_abs C) (nat_abs (A -ℤ E)))
     (cond (le_z (pos 0) (A -ℤ E)) Vertical Horizontal)
     (cond (lt_z (pos 0) C) DownLeft DownRight))
 
 -- A, C and E are returned too
-unfoldable pub estimateOf : ℕ → ℕ → TensorSums → DirectionEstimate
-estimateOf w h s =
+unfoldable pub estimate_of : ℕ → ℕ → TensorSums → DirectionEstimate
+estimate_of w h s =
     record {
-      direction = tensorDirection w h s.a s.c s.e;
+      direction = tensor_direction w h s.a s.c s.e;
       a = s.a;
       c = s.c;
       e = s.e;
     }
 
-abbrev pub pictureSums : Gray8 → TensorSums
-pictureSums src = tensorSums (pixel src.bytes src.stride) src.width src.height
+abbrev pub picture_sums : Gray8 → TensorSums
+picture_sums src = tensor_sums (pixel src.bytes src.stride) src.width src.height
 
 -- the estimate, or the layout's refusal
-unfoldable pub directionDecision : Gray8 → Decision DirectionEstimate
-directionDecision src =
-    decided (layoutRefusal (length src.bytes) src.width src.height src.stride)
-    (estimateOf src.width src.height (pictureSums src))
+unfoldable pub direction_decision : Gray8 → Decision DirectionEstimate
+direction_decision src =
+    decided (layout_refusal (length src.bytes) src.width src.height src.stride)
+    (estimate_of src.width src.height (picture_sums src))
 
-abbrev pub directionAnswer : Decision DirectionEstimate → DirectionAnswer
-directionAnswer (accepts estimate) = Direction estimate
-directionAnswer (refuses number) = Refused number
+abbrev pub direction_answer : Decision DirectionEstimate → DirectionAnswer
+direction_answer (accepts estimate) = Direction estimate
+direction_answer (refuses number) = Refused number
 
 -- ---- what the parts of the computation state
 
@@ -96,28 +96,28 @@ pub record Gradient (z r : ℤ) : Type 0 where
   pub small : nat_abs r ≤ 1020
 
 -- three rows as a picture
-abbrev pub threeRows : List ℕ → List ℕ → List ℕ → ℕ → ℕ → ℕ
-threeRows above here below c zero = get_or above c 0
-threeRows above here below c (suc zero) = get_or here c 0
-threeRows above here below c (suc (suc r)) = get_or below c 0
+abbrev pub three_rows : List ℕ → List ℕ → List ℕ → ℕ → ℕ → ℕ
+three_rows above here below c zero = get_or above c 0
+three_rows above here below c (suc zero) = get_or here c 0
+three_rows above here below c (suc (suc r)) = get_or below c 0
 
 -- .. of one length, that of an accepted row at most
 pub record Rows (above here below : List ℕ) : Type 0 where
-  pub most : length here ≤ maxSide
+  pub most : length here ≤ max_side
   pub same_above : length above ≡ length here
-  pub same-below : length below ≡ length here
+  pub same_below : length below ≡ length here
 
 -- the sums of row y + 1
-unfoldable pub rowSums : (ℕ → ℕ → ℕ) → ℕ → ℕ → RowSums
-rowSums p w y =
+unfoldable pub row_sums : (ℕ → ℕ → ℕ) → ℕ → ℕ → RowSums
+row_sums p w y =
     record {
-      a = rowSum (gradientX p) (gradientX p) w y;
-      c = rowSum (gradientX p) (gradientY p) w y;
-      e = rowSum (gradientY p) (gradientY p) w y;
+      a = row_sum (gradient_x p) (gradient_x p) w y;
+      c = row_sum (gradient_x p) (gradient_y p) w y;
+      e = row_sum (gradient_y p) (gradient_y p) w y;
     }
 
 -- sums that can be added and doubled in 64 bits: 2^41 at most
 pub record Small (A C E : ℤ) : Type 0 where
-  pub small-a : nat_abs A ≤ 2199023255552
-  pub small-c : nat_abs C ≤ 2199023255552
-  pub small-e : nat_abs E ≤ 2199023255552
+  pub small_a : nat_abs A ≤ 2199023255552
+  pub small_c : nat_abs C ≤ 2199023255552
+  pub small_e : nat_abs E ≤ 2199023255552

@@ -1,8 +1,8 @@
 // Whether the sums show a direction at all, and clearly enough (document 02, K6): their confidence is 1 minus the
 // smaller over the larger eigenvalue.
 ghost use Rattle.std.specs.Prelude.{◌≡◌, ◌+◌, ◌^◌, ◌≤◌, ◌<◌, leb, nat_abs};
-ghost use Rattle.tensor.specs.Confidence.{maxFloor, at_least, passes};
-ghost use Rattle.tensor.specs.Tensor.{noDirection, Small};
+ghost use Rattle.tensor.specs.Confidence.{max_floor, at_least, passes};
+ghost use Rattle.tensor.specs.Tensor.{no_direction, Small};
 
 use numbers::abs_i64;
 use numbers::wide::{at_least, wide_product};
@@ -13,7 +13,7 @@ const MAX_FLOOR: u16 = 256;
 // There is no interior pixel, or no gradient.
 pub(crate) fn no_direction(width: usize, height: usize, a: i64, e: i64) -> bool
     requires { nat_abs a + nat_abs e < 2 ^ 63 }
-    ensures { result ≡ noDirection width height a e }
+    ensures { result ≡ no_direction width height a e }
 {
     (width < 3) | (height < 3) | (a + e == 0)
 }
@@ -31,7 +31,7 @@ fn squares_reach(x: u64, y: u64, z: u64) -> bool
 
 // (512 − floor)² × (D² + 4C²) ≥ floor² × (A + E)², with D = A − E: three squares.
 fn reaches(a: i64, c: i64, e: i64, floor: u16) -> bool
-    requires { (floor ≤ maxFloor) × Small a c e }
+    requires { (floor ≤ max_floor) × Small a c e }
     ensures { result ≡ at_least floor a c e }
 {
     let rest = (512 - floor) as u64;

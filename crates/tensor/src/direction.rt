@@ -3,10 +3,10 @@ ghost use Rattle.std.specs.Prelude.{◌≡◌, ◌+◌, ◌*◌, ◌^◌, ◌<�
 ghost use Rattle.image.specs.Call.{gray8};
 ghost use Rattle.image.specs.Picture.{pixel};
 ghost use Rattle.image.specs.Refusal.{Laid};
-ghost use Rattle.tensor.specs.Tensor.{smooth, gradientX, gradientY, Gradient, threeRows, Rows, rowSums, Small};
-ghost use Rattle.tensor.specs.Tensor.{tensorSums, tensorDirection};
-ghost use Rattle.tensor.specs.Tensor.{directionDecision, directionAnswer};
-ghost use Rattle.tensor.specs.Confidence.{confidentDecision};
+ghost use Rattle.tensor.specs.Tensor.{smooth, gradient_x, gradient_y, Gradient, three_rows, Rows, row_sums, Small};
+ghost use Rattle.tensor.specs.Tensor.{tensor_sums, tensor_direction};
+ghost use Rattle.tensor.specs.Tensor.{direction_decision, direction_answer};
+ghost use Rattle.tensor.specs.Confidence.{confident_decision};
 
 use crate::confidence::{is_confident, no_direction};
 use image::{layout_refusal, row_of};
@@ -59,7 +59,7 @@ fn gradient(u: u8, v: u8, w: u8, u2: u8, v2: u8, w2: u8) -> i16
 
 fn gradient_x(above: &[u8], here: &[u8], below: &[u8], x: usize) -> i16
     requires { (x + 2 < length above.now) × (x + 2 < length here.now) × (x + 2 < length below.now) }
-    ensures { Gradient (gradientX (threeRows above.now here.now below.now) x 0)
+    ensures { Gradient (gradient_x (three_rows above.now here.now below.now) x 0)
         result }
 {
     let right = x + 2;
@@ -77,7 +77,7 @@ fn gradient_x(above: &[u8], here: &[u8], below: &[u8], x: usize) -> i16
 // one turn of the caller's loop to the next, and that loop becomes vector code.
 fn gradient_y(above: &[u8], below: &[u8], x: usize) -> i16
     requires { (x + 2 < length above.now) × (x + 2 < length below.now) }
-    ensures { Gradient (gradientY (threeRows above.now [] below.now) x 0) result }
+    ensures { Gradient (gradient_y (three_rows above.now [] below.now) x 0) result }
 {
     let right = x + 2;
     let above_mid = &above[1..];
@@ -102,7 +102,7 @@ fn add_product(sum: i32, u: i16, v: i16) -> i32
 // The sums of the row here, between two others.
 fn row_sums(above: &[u8], here: &[u8], below: &[u8]) -> RowSums
     requires { Rows above.now here.now below.now }
-    ensures { result ≡ rowSums (threeRows above.now here.now below.now)
+    ensures { result ≡ row_sums (three_rows above.now here.now below.now)
         (length here.now) 0 }
 {
     let n = here.len();
@@ -130,7 +130,7 @@ fn add_row(sum: i64, row: i32) -> i64
 
 fn tensor_sums(data: &[u8], width: usize, height: usize, stride: usize) -> TensorSums
     requires { Laid (length «data».now) width height stride }
-    ensures { (result ≡ tensorSums (pixel «data».now stride) width height) × Small result.a result.c result.e }
+    ensures { (result ≡ tensor_sums (pixel «data».now stride) width height) × Small result.a result.c result.e }
 {
     let mut a: i64 = 0;
     let mut c: i64 = 0;
@@ -151,7 +151,7 @@ fn tensor_sums(data: &[u8], width: usize, height: usize, stride: usize) -> Tenso
 
 fn tensor_direction(width: usize, height: usize, a: i64, c: i64, e: i64) -> RasterDirection4
     requires { Small a c e }
-    ensures { result ≡ tensorDirection width height a c e }
+    ensures { result ≡ tensor_direction width height a c e }
 {
     if no_direction(width, height, a, e) {
         return RasterDirection4::Horizontal;
@@ -178,7 +178,7 @@ pub fn estimate_confident_direction(
     stride: usize,
     floor: u16,
 ) -> DirectionAnswer
-    ensures { result ≡ directionAnswer (confidentDecision floor (gray8 «data».now width height stride)) }
+    ensures { result ≡ direction_answer (confident_decision floor (gray8 «data».now width height stride)) }
 {
     let refusal = layout_refusal(data.len(), width, height, stride);
     if refusal != 0 {
@@ -204,7 +204,7 @@ pub fn estimate_line_direction(
     height: usize,
     stride: usize,
 ) -> DirectionAnswer
-    ensures { result ≡ directionAnswer (directionDecision (gray8 «data».now width height stride)) }
+    ensures { result ≡ direction_answer (direction_decision (gray8 «data».now width height stride)) }
 {
     estimate_confident_direction(data, width, height, stride, 0)
 }

@@ -1,8 +1,8 @@
 // The length call with records of its own.
 ghost use Rattle.std.specs.Prelude.{◌≡◌};
-ghost use Rattle.raster.specs.Direction.{fromAngle};
+ghost use Rattle.raster.specs.Direction.{from_angle};
 ghost use Rattle.image.specs.Call.{gray8};
-ghost use Rattle.blur.specs.Length.{snappedDecision, lengthAnswer};
+ghost use Rattle.blur.specs.Length.{snapped_decision, length_answer};
 
 use blur::length::{LengthAnswer, LineLengthConfig, estimate_line_length_with};
 use swings::Swing;
@@ -18,8 +18,8 @@ pub(crate) fn length_at(
     config: LineLengthConfig,
     none: Swing,
 ) -> LengthAnswer
-    ensures { result ≡ lengthAnswer
-        (snappedDecision (gray8 «data».now width height stride) (fromAngle theta_radians)
+    ensures { result ≡ length_answer
+        (snapped_decision (gray8 «data».now width height stride) (from_angle theta_radians)
         config.minimum_transitions config.minimum_amplitude 256) }
 {
     let mut swings = [none; 256];

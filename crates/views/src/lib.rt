@@ -2,12 +2,12 @@
 // the views' fields.
 ghost use Rattle.std.specs.Prelude.{◌≡◌};
 ghost use Rattle.blur.specs.Length.{SnappedMeasured, defaults};
-ghost use Rattle.tensor.specs.Tensor.{directionAnswer, directionDecision};
+ghost use Rattle.tensor.specs.Tensor.{direction_answer, direction_decision};
 ghost use Rattle.deblur.specs.Calls.{Filtered, EstimateWritten};
-ghost use Rattle.deblur.specs.Settings.{restorationOf, unsharpOf};
+ghost use Rattle.deblur.specs.Settings.{restoration_of, unsharp_of};
 ghost use Rattle.job.specs.Job.{Restored};
 ghost use Rattle.pgm.specs.Write.{PgmWritten};
-ghost use Rattle.raster.specs.Direction.{fromAngle};
+ghost use Rattle.raster.specs.Direction.{from_angle};
 ghost use Rattle.resize.specs.Call.{BoxHalved, Halved};
 ghost use Rattle.sharpen.specs.Call.{Sharpened};
 ghost use Rattle.views.specs.Pictures.{lent, seen};
@@ -23,7 +23,7 @@ use swings::Swing;
 use tensor::direction::DirectionAnswer;
 
 pub fn estimate_line_direction<'a>(src: Gray8View<'a>) -> DirectionAnswer
-    ensures { result ≡ directionAnswer (directionDecision (seen src.entry)) }
+    ensures { result ≡ direction_answer (direction_decision (seen src.entry)) }
 {
     tensor::direction::estimate_line_direction(src.data, src.width, src.height, src.stride)
 }
@@ -34,7 +34,7 @@ pub fn estimate_line_length_with<'a>(
     config: LineLengthConfig,
     swings: &mut [Swing],
 ) -> LengthAnswer
-    ensures { SnappedMeasured (seen src.entry) (fromAngle theta_radians) config.minimum_transitions
+    ensures { SnappedMeasured (seen src.entry) (from_angle theta_radians) config.minimum_transitions
         config.minimum_amplitude
         swings.old swings.new result }
 {
@@ -54,7 +54,7 @@ pub fn estimate_line_length<'a>(
     theta_radians: f64,
     swings: &mut [Swing],
 ) -> LengthAnswer
-    ensures { SnappedMeasured (seen src.entry) (fromAngle theta_radians) defaults.minimum_transitions
+    ensures { SnappedMeasured (seen src.entry) (from_angle theta_radians) defaults.minimum_transitions
         defaults.minimum_amplitude
         swings.old swings.new result }
 {
@@ -74,7 +74,7 @@ pub fn van_cittert_line_into<'a, 'b>(
     config: VanCittertConfig,
     scratch: &mut [i32],
 ) -> RestorationAnswer
-    ensures { Filtered (seen src.entry) (lent dst.entry) dst.exit.0.now (restorationOf config)
+    ensures { Filtered (seen src.entry) (lent dst.entry) dst.exit.0.now (restoration_of config)
         scratch.old scratch.new result }
 {
     deblur::van_cittert_line_into(
@@ -97,7 +97,7 @@ pub fn van_cittert_estimate_into<'a>(
     config: VanCittertConfig,
     scratch: &mut [i32],
 ) -> RestorationAnswer
-    ensures { EstimateWritten (seen src.entry) dst.old dst.new (restorationOf config)
+    ensures { EstimateWritten (seen src.entry) dst.old dst.new (restoration_of config)
         scratch.old scratch.new result }
 {
     deblur::van_cittert_estimate_into(
@@ -111,7 +111,7 @@ pub fn directional_unsharp_line_into<'a, 'b>(
     config: DirectionalUnsharpConfig,
     scratch: &mut [i32],
 ) -> RestorationAnswer
-    ensures { Filtered (seen src.entry) (lent dst.entry) dst.exit.0.now (unsharpOf config)
+    ensures { Filtered (seen src.entry) (lent dst.entry) dst.exit.0.now (unsharp_of config)
         scratch.old scratch.new result }
 {
     deblur::directional_unsharp_line_into(

@@ -39,8 +39,8 @@ use Rattle.walks.proofs.Call.{answers}
 use Rattle.walks.proofs.Data.{Data, fits_in, Argument, made, kinds, Facts, haves, all_made}
 use Rattle.walks.proofs.Enter.{Of}
 use Rattle.walks.proofs.Forward.{params, ended, spelled, values-in, flat_in}
-use Rattle.walks.proofs.Locals.{Values, has, with_value, kept, is-array, away, here, lands-kept, sets}
-use Rattle.walks.proofs.Straight.{values, calls-in, reads_all}
+use Rattle.walks.proofs.Locals.{Values, has, with_value, kept, is_array, away, here, lands_kept, sets}
+use Rattle.walks.proofs.Straight.{values, calls_in, reads_all}
 
 module _ {n : ℕ} (xs : List (Argument n)) (R : Data) where
   abbrev pub asked : Ended
@@ -80,7 +80,7 @@ Knows {𝓤 = 𝓤} 𝓛 𝓣 f T c = Triple 𝓤 (𝓣.C f) (Of 𝓛 T c)
 
 -- a local of that type is no array
 stays_here : (m : Bool) (τ : Ty) (R : Data) → τ ≡ R.ty → Tᵇ (not (away m τ))
-stays_here m τ R e = here m τ (subst (λ (σ : Ty). Tᵇ (not (is-array σ))) (sym e) R.no-array)
+stays_here m τ R e = here m τ (subst (λ (σ : Ty). Tᵇ (not (is_array σ))) (sym e) R.no_array)
 
 module _ {M : Type 1} {𝓤 : Ura M} {𝓛 : Logic 𝓤} {K : Type 0} {Γ : List (Item 𝓤)} {m :
     Bool} {E : Env 𝓤
@@ -112,7 +112,7 @@ module _ {M : Type 1} {𝓤 : Ura M} {𝓛 : Logic 𝓤} {K : Type 0} {Γ : List
       regoal t after (val_of xs R r v is) refl $ move t (2 ∷ 0 ∷ []) $ k r ws f (is-of xs R r v is))
 
   module _ {q : Post 𝓤 H} where
-    pub calls-on : K → (𝓣 : Tables 𝓤 H) {f : Name} {os : List Operand} {i : ℕ} {rest : Body} (n : ℕ) (xs :
+    pub calls_on : K → (𝓣 : Tables 𝓤 H) {f : Name} {os : List Operand} {i : ℕ} {rest : Body} (n : ℕ) (xs :
         List (Argument n)) (R : Data) (c : Clauses 𝓤 (asked xs R)) → Triple 𝓤 (𝓣.C f) (Of 𝓛 (asked xs R) c)
         → (κs : Lfts n) (qs : Shares n) (a : Args (asked xs R).signature κs) (g : (c κs a).ghost) → Facts κs xs a
         → ent 𝓤 (emp 𝓤) ((c κs a).requires g)
@@ -125,14 +125,14 @@ module _ {M : Type 1} {𝓤 : Ura M} {𝓛 : Logic 𝓤} {K : Type 0} {Γ : List
         rest q))
         → Seq K 𝓛 (‵ (kept m E σ) ∷ raw (toks 𝓛 n κs qs) ∷ ‵ (haves κs xs a) ∷ Γ) (runs 𝓣.C 𝓣.Λ E
         (seq (call f os (place i [])) rest) q)
-    calls-on t 𝓣 {f} {os} {i} {rest} n xs R c known κs qs a g facts may reads holds is-ty φ says k =
+    calls_on t 𝓣 {f} {os} {i} {rest} n xs R c known κs qs a g facts may reads holds is_ty φ says k =
         asks t xs (λ _. R.type) c κs qs a g facts may $
-        calls-in t (fm_of 𝓤 H 𝓛.laws 𝓣) (Of 𝓛 (asked xs R) c) known (at xs (λ _. R.type) 𝓛 c κs qs a g)
+        calls_in t (fm_of 𝓤 H 𝓛.laws 𝓣) (Of 𝓛 (asked xs R) c) known (at xs (λ _. R.type) 𝓛 c κs qs a g)
         (reads ∙ ap some (flat_in κs (kinds xs) a)) (λ v.
         replies t xs R c κs qs a g φ says (λ u. lands 𝓣.C 𝓣.Λ E (place i []) u rest q) v tt (λ r ws e is.
-        lands-kept t holds (stays_here m _ R is-ty) (fits_in 𝓛 R r _ is-ty is) $ k r ws e is))
+        lands_kept t holds (stays_here m _ R is_ty) (fits_in 𝓛 R r _ is_ty is) $ k r ws e is))
 
-    pub calls-on-last : K → (𝓣 : Tables 𝓤 H) {f : Name} {os : List Operand} {i : ℕ} (n : ℕ) (xs : List (Argument
+    pub calls_on_last : K → (𝓣 : Tables 𝓤 H) {f : Name} {os : List Operand} {i : ℕ} (n : ℕ) (xs : List (Argument
         n)) (R : Data) (c : Clauses 𝓤 (asked xs R)) → Triple 𝓤 (𝓣.C f) (Of 𝓛 (asked xs R) c)
         → (κs : Lfts n) (qs : Shares n) (a : Args (asked xs R).signature κs) (g : (c κs a).ghost) → Facts κs xs a
         → ent 𝓤 (emp 𝓤) ((c κs a).requires g)
@@ -144,7 +144,7 @@ module _ {M : Type 1} {𝓤 : Ura M} {𝓛 : Logic 𝓤} {K : Type 0} {Γ : List
         → Seq K 𝓛 (After xs R 𝓛 κs qs a ws (‵ (kept m E σ)) Γ) (settles E (place i []) (R.val r) q))
         → Seq K 𝓛 (‵ (kept m E σ) ∷ raw (toks 𝓛 n κs qs) ∷ ‵ (haves κs xs a) ∷ Γ) (runs 𝓣.C 𝓣.Λ E
         (call f os (place i [])) q)
-    calls-on-last t 𝓣 {f} {os} {i} n xs R c known κs qs a g facts may reads φ says k =
+    calls_on_last t 𝓣 {f} {os} {i} n xs R c known κs qs a g facts may reads φ says k =
         asks t xs (λ _. R.type) c κs qs a g facts may $
         calls_at_last t (fm_of 𝓤 H 𝓛.laws 𝓣) (Of 𝓛 (asked xs R) c) known (at xs (λ _. R.type) 𝓛 c κs qs a g)
         (reads_all t 𝓛 (raw ((Of 𝓛 (asked xs R) c).pre (at xs (λ _. R.type) 𝓛 c κs qs a g)) ∷ ‵ (kept m E σ) ∷
@@ -156,11 +156,11 @@ module _ {M : Type 1} {𝓤 : Ura M} {𝓛 : Logic 𝓤} {K : Type 0} {Γ : List
         → Is R.type r (R.val r ∷ [])
         → Step K 𝓛 (‵ (kept m E (with_value σ i (R.val r))) ∷ Γ) (prop (post 𝓤 H q next)) (‵ (kept m E σ) ∷ Γ) (settles
         E (place i []) (R.val r) q)
-    settled t R r {i} holds is-ty is = land_last t (from t (stop t)) (sets t i (R.val r) holds (stays_here m _ R is-ty)
-        (fits_in 𝓛 R r _ is-ty is))
+    settled t R r {i} holds is_ty is = land_last t (from t (stop t)) (sets t i (R.val r) holds (stays_here m _ R is_ty)
+        (fits_in 𝓛 R r _ is_ty is))
 
     -- a function of plain data that gives x
-    pub calls-equal : K → (𝓣 : Tables 𝓤 H) {f : Name} {os : List Operand} {i : ℕ} {rest : Body} (ds : List Data) (R :
+    pub calls_equal : K → (𝓣 : Tables 𝓤 H) {f : Name} {os : List Operand} {i : ℕ} {rest : Body} (ds : List Data) (R :
         Data) (c : Clauses 𝓤 (asked (all_plain ds) R)) → Triple 𝓤 (𝓣.C f) (Of 𝓛 (asked (all_plain ds) R) c)
         → (a : Args (asked (all_plain ds) R).signature (tt {0})) (g : (c (tt {0}) a).ghost) → Facts (tt {0}) (all_plain
         ds) a
@@ -172,17 +172,17 @@ module _ {M : Type 1} {𝓤 : Ura M} {𝓛 : Logic 𝓤} {K : Type 0} {Γ : List
         → (Is R.type x (R.val x ∷ [])
         → Seq K 𝓛 (‵ (kept m E (with_value σ i (R.val x))) ∷ Γ) (runs 𝓣.C 𝓣.Λ E rest q))
         → Seq K 𝓛 (‵ (kept m E σ) ∷ Γ) (runs 𝓣.C 𝓣.Λ E (seq (call f os (place i [])) rest) q)
-    calls-equal t 𝓣 {i = i} ds R c known a g facts may reads holds is-ty x says k =
+    calls_equal t 𝓣 {i = i} ds R c known a g facts may reads holds is_ty x says k =
         use0 𝓛 (‵ (haves (tt {0}) (all_plain ds) a)) (bare 𝓛 ds a) $
         use0 𝓛 (raw (toks 𝓛 zero (tt {0}) (tt {0}))) (id⊢ 𝓤 (emp 𝓤)) $ move t (2 ∷ 0
-        ∷ 1 ∷ []) $ calls-on t 𝓣 zero (all_plain ds) R c known (tt {0}) (tt {0}) a g facts may reads holds is-ty (λ r _.
+        ∷ 1 ∷ []) $ calls_on t 𝓣 zero (all_plain ds) R c known (tt {0}) (tt {0}) a g facts may reads holds is_ty (λ r _.
         r ≡ x) says (λ r ws e is.
         move t (1 ∷ 2 ∷ []) $ drop t $ drop t $
         rewrite t 0 (λ (y : R.type.Denot). ‵ (kept m E (with_value σ i (R.val y)))) e refl $
         k (subst (λ (y : R.type.Denot). Is R.type y (R.val y ∷ [])) e is))
 
     -- a function that gives x, which is owned and has the machine value v
-    pub calls-giving : K → (𝓣 : Tables 𝓤 H) {f : Name} {os : List Operand} {i : ℕ} {rest : Body} (n : ℕ) (xs : List
+    pub calls_giving : K → (𝓣 : Tables 𝓤 H) {f : Name} {os : List Operand} {i : ℕ} {rest : Body} (n : ℕ) (xs : List
         (Argument n)) (R : Lfts n → RattleType) (c : Clauses 𝓤 (ended (kinds xs) R))
         → Knows 𝓛 𝓣 f (ended (kinds xs) R) c
         → (κs : Lfts n) (qs : Shares n) (a : Args (ended (kinds xs) R).signature κs) (g : (c κs a).ghost)
@@ -195,9 +195,9 @@ module _ {M : Type 1} {𝓤 : Ura M} {𝓛 : Logic 𝓤} {K : Type 0} {Γ : List
         → (Is (R κs) x (v ∷ []) → Tᵇ (has_ty (get_or E i (no_local 𝓤 H)).0 v) × WT v)
         → Step K 𝓛 (‵ (kept m E (with_value σ i v)) ∷ raw (toks 𝓛 n κs qs) ∷ ‵ ((R κs).own x (v ∷ [])) ∷ Γ) (runs 𝓣.C 𝓣.Λ E rest q) (‵ (kept m E σ) ∷ raw (toks 𝓛 n κs qs) ∷ ‵ (haves κs xs a) ∷ Γ) (runs 𝓣.C 𝓣.Λ E
         (seq (call f os (place i [])) rest) q)
-    calls-giving t 𝓣 {f} {os} {i} {rest} n xs R c known κs qs a g facts may reads holds here-is x v says tells typed =
+    calls_giving t 𝓣 {f} {os} {i} {rest} n xs R c known κs qs a g facts may reads holds here-is x v says tells typed =
         step (λ s. asks t xs R c κs qs a g facts may $
-        calls-in t (fm_of 𝓤 H 𝓛.laws 𝓣) (Of 𝓛 (ended (kinds xs) R) c) known (at xs R 𝓛 c κs qs a g) (reads ∙
+        calls_in t (fm_of 𝓤 H 𝓛.laws 𝓣) (Of 𝓛 (ended (kinds xs) R) c) known (at xs R 𝓛 c κs qs a g) (reads ∙
         ap some (flat_in κs (kinds xs) a)) (λ u.
         use1 𝓛 (later (someᴵ (λ (r : (R κs).Denot). (raw (toks 𝓛 n κs qs) ⊛ ‵ ((R κs).own r (u ∷ []))) ⊛ raw (ensured
         𝓛 (ended (kinds xs) R) c κs a g r)))) (id⊢ 𝓤 _) $ await t tt $ pick t (λ r. split t $ move t (1 ∷ []) $
@@ -207,4 +207,4 @@ module _ {M : Type 1} {𝓤 : Ura M} {𝓛 : Logic 𝓤} {K : Type 0} {Γ : List
         peeks t (R κs) (Is (R κs)) (shows 𝓛 (R κs)) x (u ∷ []) (λ is. let same = ap only (tells (u ∷ []) is) in
         rewrite t 0 (λ (y : Val). ‵ ((R κs).own x (y ∷ []))) same refl $
         regoal t (λ y. lands 𝓣.C 𝓣.Λ E (place i []) y rest q) same refl $ move t (2 ∷ 1 ∷ 0 ∷ []) $
-        lands-kept t holds here-is (typed (subst (Is (R κs) x) (tells (u ∷ []) is) is)) $ s)))))
+        lands_kept t holds here-is (typed (subst (Is (R κs) x) (tells (u ∷ []) is) is)) $ s)))))

@@ -29,8 +29,8 @@ use denote.Triple.Entry.{Res, alive}
 use denote.Triple.Spec.{triple_of}
 use denote.Triple.Statement.{Triple}
 use denote.Triple.Clauses.{Clauses, Ended, Lasts, lasts, at_exit, closing}
-use Rattle.walks.proofs.Locals.{Values, has, with_value, held, lands-in}
-use Rattle.walks.proofs.Straight.{values, calls-in}
+use Rattle.walks.proofs.Locals.{Values, has, with_value, held, lands_in}
+use Rattle.walks.proofs.Straight.{values, calls_in}
 
 module _ {M : Type 1} {𝓤 : Ura M} {𝓛 : Logic 𝓤} {K : Type 0} {Γ : List (Item 𝓤)} {G :
     Goal 𝓤 𝓛.H} where
@@ -58,7 +58,7 @@ module _ {M : Type 1} {𝓤 : Ura M} {𝓛 : Logic 𝓤} {K : Type 0} {Γ : List
     {C : Calls 𝓤 𝓛.H} {Λ : Loops 𝓤 𝓛.H} {q : Post 𝓤 𝓛.H} where
   open 𝓛 use {H}
 
-  pub calls-plain : K → FmC 𝓤 H 𝓛.laws C → {E : Env 𝓤 H} {σ : Values} {f : Name} {xs : List Operand} {i : ℕ} {rest :
+  pub calls_plain : K → FmC 𝓤 H 𝓛.laws C → {E : Env 𝓤 H} {σ : Values} {f : Name} {xs : List Operand} {i : ℕ} {rest :
       Body}
       (T : Ended) (c : Clauses 𝓤 T) → Triple 𝓤 (C f) (triple_of 𝓛 T.signature (closing 𝓛 T c))
       → (y : (triple_of 𝓛 T.signature (closing 𝓛 T c)).Ghost)
@@ -72,8 +72,8 @@ module _ {M : Type 1} {𝓤 : Ura M} {𝓛 : Logic 𝓤} {K : Type 0} {Γ : List
       → Tᵇ (has_ty (get_or E i (no_local 𝓤 H)).0 v) × WT v
       → Step K 𝓛 (‵ (held E (with_value σ i v)) ∷ Γ) (runs C Λ E rest q)
       (‵ (held E σ) ∷ Γ) (runs C Λ E (seq (call f xs (place i [])) rest) q)
-  calls-plain t fm {E} {σ} {f} {xs} {i} {rest} T c known y made reads holds φ says v only typed = step (λ s.
+  calls_plain t fm {E} {σ} {f} {xs} {i} {rest} T c known y made reads holds φ says v only typed = step (λ s.
       use0 𝓛 (raw ((triple_of 𝓛 T.signature (closing 𝓛 T c)).pre y)) made $
-      calls-in t fm (triple_of 𝓛 T.signature (closing 𝓛 T c)) known y reads (λ u.
+      calls_in t fm (triple_of 𝓛 T.signature (closing 𝓛 T c)) known y reads (λ u.
       answers t tt T c y u φ says (λ r ws e is. drop t $ drop t $
-      regoal t (λ w. lands C Λ E (place i []) w rest q) (only r ws u e is) refl $ lands-in t holds typed $ s)))
+      regoal t (λ w. lands C Λ E (place i []) w rest q) (only r ws u e is) refl $ lands_in t holds typed $ s)))

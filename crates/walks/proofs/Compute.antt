@@ -70,14 +70,14 @@ module _ {n : ℕ} (ks : List (Kind n)) (R : Lfts n → RattleType) (r : (κs : 
           Γ)
           (runs (tables 𝓤 H 𝓜 𝓡 γ).C (tables 𝓤 H 𝓜 𝓡 γ).Λ (env f.locals bs) f.body q)
 
-      pub computes-from : ((κs : Lfts n) (a : Args (ended ks R).signature κs) → AllTyped κs ks a
+      pub computes_from : ((κs : Lfts n) (a : Args (ended ks R).signature κs) → AllTyped κs ks a
           → Entry f.locals (values-in κs ks a))
           → ((κs : Lfts n) (a : Args (ended ks R).signature κs)
           → Are (types_at (params ks) κs) (Ises (types_at (params ks) κs)) a (valss (types_at (params ks) κs) (spelled κs
           ks) a)
           → Arrives κs a)
           → Meets 𝓛 (ended ks R).signature ((tables 𝓤 H 𝓜 𝓡 γ).C name) (closing 𝓛 (ended ks R) c)
-      computes-from entry arrives =
+      computes_from entry arrives =
           let A : Atoms 𝓤 = 𝓛.A in
           let C : Calls 𝓤 H = (tables 𝓤 H 𝓜 𝓡 γ).C in
           let Λ : Loops 𝓤 H = (tables 𝓤 H 𝓜 𝓡 γ).Λ in
@@ -101,7 +101,7 @@ module _ {n : ℕ} (ks : List (Kind n)) (R : Lfts n → RattleType) (r : (κs : 
 
       pub computes : Computes f
           → Meets 𝓛 (ended ks R).signature ((tables 𝓤 H 𝓜 𝓡 γ).C name) (closing 𝓛 (ended ks R) c)
-      computes code = computes-from code.entry (λ κs a are bs Γ q s. execs ! $
+      computes code = computes_from code.entry (λ κs a are bs Γ q s. execs ! $
           regoal ! (λ b. runs (tables 𝓤 H 𝓜 𝓡 γ).C (tables 𝓤 H 𝓜 𝓡 γ).Λ (env f.locals bs) b q) (code.returns κs a
           bs) refl $
           s _ (code.leaves κs a bs))

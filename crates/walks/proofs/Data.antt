@@ -34,14 +34,14 @@ use denote.Struct.Declared as SD
 use denote.Struct.Laws as LL
 use denote.Struct.Struct.{Plains}
 use Rattle.walks.proofs.Forward.{Kind, params, spelled}
-use Rattle.walks.proofs.Locals.{is-array}
+use Rattle.walks.proofs.Locals.{is_array}
 use Rattle.walks.proofs.Parameters.{plain_of}
 
 pub record Data : Type 2 where
   pub type : RattleType
   pub ty : Ty
-  pub is-ty : type.mir ≡ ty ∷ []
-  pub no-array : T (not (is-array ty))
+  pub is_ty : type.mir ≡ ty ∷ []
+  pub no_array : T (not (is_array ty))
   pub val : type.Denot → Val
   pub tells : Tells type (Is type) (λ x. val x ∷ [])
   pub lawful : (M : Type 1) (𝓤 : Ura M) (𝓛 : Logic 𝓤) → Lawful 𝓛 type
@@ -51,14 +51,14 @@ module _ {M : Type 1} {𝓤 : Ura M} (𝓛 : Logic 𝓤) (D : Data) (x : D.type.
   -- its machine value fits a local of its type
   pub fits_in : (τ : Ty) → τ ≡ D.ty → Is D.type x (D.val x ∷ []) → T (has_ty τ (D.val x)) × WT (D.val x)
   fits_in τ e is = subst (λ (σ : Ty). T (has_ty σ (D.val x)) × WT (D.val x)) (sym e) (subst (λ (τs : List Ty). Typed τs
-      (D.val x ∷ [])) D.is-ty ((D.lawful _ 𝓤 𝓛).typed x (D.val x ∷ []) is)).0
+      (D.val x ∷ [])) D.is_ty ((D.lawful _ 𝓤 𝓛).typed x (D.val x ∷ []) is)).0
 
 abbrev pub uint : Width → Data
 uint w = record {
   type = UInt w;
   ty = ty_int w;
-  is-ty = refl;
-  no-array = tt;
+  is_ty = refl;
+  no_array = tt;
   val = vint w;
   tells = uint_Tells w;
   lawful = λ M 𝓤 𝓛. uint_Lawful 𝓛 w;
@@ -69,8 +69,8 @@ abbrev pub double : Format → Data
 double f = record {
   type = FloatOf f;
   ty = ty_float f;
-  is-ty = refl;
-  no-array = tt;
+  is_ty = refl;
+  no_array = tt;
   val = vfloat f;
   tells = float_Tells f;
   lawful = λ M 𝓤 𝓛. float_Lawful 𝓛 f;
@@ -81,8 +81,8 @@ abbrev pub struct : (D : SD.Declared) → LL.Laws D → Plains (SD.fields D) →
 struct D L plain = record {
   type = SD.row D;
   ty = lone (SD.row D).mir;
-  is-ty = refl;
-  no-array = tt;
+  is_ty = refl;
+  no_array = tt;
   val = LL.val D L;
   tells = LL.tells D L;
   lawful = λ M 𝓤 𝓛. LL.lawful D L 𝓛;
@@ -93,8 +93,8 @@ abbrev pub enum : (D : ED.Declared) → EL.Laws D → Few (ED.shape D) → Plain
 enum D L few plain = record {
   type = ED.row D;
   ty = lone (ED.row D).mir;
-  is-ty = refl;
-  no-array = tt;
+  is_ty = refl;
+  no_array = tt;
   val = EL.val D L;
   tells = EL.tells D L;
   lawful = λ M 𝓤 𝓛. EL.lawful D L 𝓛 few;
@@ -103,7 +103,7 @@ enum D L few plain = record {
 
 module _ {n : ℕ} where
   abbrev pub value : Data → Kind n
-  value d = plain_of d.type d.ty d.is-ty d.val d.tells d.lawful
+  value d = plain_of d.type d.ty d.is_ty d.val d.tells d.lawful
 
 pub data Argument (n : ℕ) : Type 2 where
   made : Data → Argument n

@@ -14,7 +14,7 @@ use native.Mathlib.Nat.{le_antisymm}
 use native.Mathlib.Omega.{arith}
 use mathlib.Core.List.{List, [], ◌∷◌}
 use lib.ListN.{length, get_or, take, drop}
-use Rattle.walks.proofs.Lists.{take-here, take-end}
+use Rattle.walks.proofs.Lists.{take_here, take_end}
 
 module _ {X A : Type 0} (f : X → A → A) (ok : X → A → Type 0) (all : List X → A → A) (may : List X → A → Type 0) where
   pub record Folds : Type 0 where
@@ -35,22 +35,22 @@ module _ {X A : Type 0} (f : X → A → A) (ok : X → A → Type 0) (all : Lis
     starts allows is = record { at = 0; acc = a₀; real = is; future = refl; allowed = allows; most = omega arith }
 
     module _ (law : Folds) (t : At) where
-      pub folded-all : n ≤ t.at → t.acc ≡ all (take n xs) a₀
-      folded-all done =
+      pub folded_all : n ≤ t.at → t.acc ≡ all (take n xs) a₀
+      folded_all done =
           let e : t.at ≡ n = le_antisymm t.most done in
           sym (law.all_none t.acc) ∙ ap (λ (l : List X). all l t.acc) (sym (ap (λ (k : ℕ). drop k (take n xs)) e
-          ∙ take-end xs n)) ∙ t.future
+          ∙ take_end xs n)) ∙ t.future
 
       module _ (d : X) (below : t.at < n) (enough : n ≤ length xs) where
         pub here : drop t.at (take n xs) ≡ get_or xs t.at d ∷ drop (suc t.at) (take n xs)
-        here = take-here xs n t.at d below enough
+        here = take_here xs n t.at d below enough
 
-        pub both-allowed : ok (get_or xs t.at d) t.acc × may (drop (suc t.at) (take n xs)) (f (get_or xs t.at
+        pub both_allowed : ok (get_or xs t.at d) t.acc × may (drop (suc t.at) (take n xs)) (f (get_or xs t.at
             d) t.acc)
-        both-allowed = law.may_more _ _ _ (subst (λ (l : List X). may l t.acc) here t.allowed)
+        both_allowed = law.may_more _ _ _ (subst (λ (l : List X). may l t.acc) here t.allowed)
 
-        pub allowed-here : ok (get_or xs t.at d) t.acc
-        allowed-here = both-allowed.0
+        pub allowed_here : ok (get_or xs t.at d) t.acc
+        allowed_here = both_allowed.0
 
         abbrev pub after : (a : A) → a ≡ f (get_or xs t.at d) t.acc → Real a → At
         after a e is = record {
@@ -59,7 +59,7 @@ module _ {X A : Type 0} (f : X → A → A) (ok : X → A → Type 0) (all : Lis
           real = is;
           future = ap (all (drop (suc t.at) (take n xs))) e ∙ sym (law.all_more _ _ _) ∙ ap (λ (l : List X). all l
               t.acc) (sym here) ∙ t.future;
-          allowed = subst (may (drop (suc t.at) (take n xs))) (sym e) both-allowed.1;
+          allowed = subst (may (drop (suc t.at) (take n xs))) (sym e) both_allowed.1;
           most = below;
         }
 

@@ -4,7 +4,7 @@
 --     passed_on        a parameter that is passed on as it is
 --     ended, callee-ended      the two signatures, of a list of such parameters
 --     forwards         such a function meets its contract, if what the callee ensures gives what it ensures
---     forwards-from    the same where the code calls functions of plain data first (`Call: calls-plain`)
+--     forwards-from    the same where the code calls functions of plain data first (`Call: calls_plain`)
 -- All that is passed goes to the callee for good, so nothing is had of it at exit but what the callee says of its last
 -- values.
 -- Assumes nothing.
@@ -43,8 +43,8 @@ use denote.Triple.Table.{cited}
 use denote.Triple.Clauses.{Ended, Clauses, Lasts, at_exit, lasts, ensured, closing}
 use Rattle.walks.proofs.Enter.{enters}
 use Rattle.walks.proofs.Locals.{Values, has, Entry, at_entry, env, held, begins, ends}
-use Rattle.walks.proofs.Locals.{lands-in, set_is}
-use Rattle.walks.proofs.Straight.{exec, values, execs, calls-in}
+use Rattle.walks.proofs.Locals.{lands_in, set_is}
+use Rattle.walks.proofs.Straight.{exec, values, execs, calls_in}
 
 pub record Kind (n : ℕ) : Type 2 where
   pub slot : Slot n
@@ -366,12 +366,12 @@ module _ {n : ℕ} (ks : List (Kind n)) (R : Lfts n → RattleType) where
             arrives bs _ _ $
             move ! (1 ∷ []) $ use1 𝓛 (raw (Callee.pre to) ⊛ ‵ (rests κs ks a)) (asked are) $ split ! $
             move ! (0 ∷ 2 ∷ []) $
-            calls-in ! (fm_of 𝓤 H 𝓛.laws 𝓣) Callee known to (code.reads κs a bs) (λ v.
+            calls_in ! (fm_of 𝓤 H 𝓛.laws 𝓣) Callee known to (code.reads κs a bs) (λ v.
             use1 𝓛 (later (someᴵ (λ (r : (R κs).Denot). (raw (alive 𝓛 ended.signature κs qs) ⊛ ‵ ((R κs).own r (v
             ∷ []))) ⊛ raw (ensured 𝓛 callee-ended c' κs (args κs ks a) k.ghost r)))) (id⊢ 𝓤 _) $
             await ! tt $ pick ! (λ r. split ! $ split ! $ move ! (1 ∷ []) $
             peeks ! (R κs) (Is (R κs)) (shows 𝓛 (R κs)) r (v ∷ []) (λ is. move ! (3 ∷ 1 ∷ 0 ∷ []) $
-            lands-in ! (code.holds κs a bs) (result r v is bs) $ ends ! (set_is (σ κs a bs) 0 v
+            lands_in ! (code.holds κs a bs) (result r v is bs) $ ends ! (set_is (σ κs a bs) 0 v
             (code.holds κs a bs)) $ join ! $ by ! (answered r v)))))
 
   module _ {M : Type 1} {𝓤 : Ura M} (𝓛 : Logic 𝓤) (𝓜 : Model 𝓤 𝓛.H) (𝓡 : Running 𝓤 𝓛.H 𝓜)
@@ -381,7 +381,7 @@ module _ {n : ℕ} (ks : List (Kind n)) (R : Lfts n → RattleType) where
     -- the theorem of the function named `name`, whose code is f and runs to the call
     open 𝓛 use {H}
 
-    pub forwards-from : (σ : (κs : Lfts n) → Args ended.signature κs → (ℕ → ℕ) → Values) (code : Calls f σ)
+    pub forwards_from : (σ : (κs : Lfts n) → Args ended.signature κs → (ℕ → ℕ) → Values) (code : Calls f σ)
         → ((κs : Lfts n) (r : (R κs).Denot) (v : Val) → Is (R κs) r (v ∷ []) → (bs : ℕ → ℕ)
         → T (has_ty (get_or (env f.locals bs) 0 (no_local 𝓤 H)).0 v) × WT v)
         → (k : (κs : Lfts n) (a : Args ended.signature κs) (g : (c κs a).ghost) → Asks 𝓛 c c' κs a g)
@@ -392,7 +392,7 @@ module _ {n : ℕ} (ks : List (Kind n)) (R : Lfts n → RattleType) where
         code.operands (σ κs a))
         → Meets 𝓛 ended.signature ((tables 𝓤 H 𝓜 𝓡 γ).C name) (closing 𝓛 ended c)
     unfolding tables_of
-    forwards-from σ code result k arrives =
+    forwards_from σ code result k arrives =
         let A : Atoms 𝓤 = 𝓛.A in
         let 𝓣 : Tables 𝓤 H = tables_of 𝓤 H 𝓜 (tables 𝓤 H 𝓜 𝓡 γ) in
         enters 𝓛 𝓜 𝓡 ended c γ name f closed (λ κs. spelled κs ks) (λ κs. told κs ks) (λ κs qs bounds a g are.
@@ -410,7 +410,7 @@ module _ {n : ℕ} (ks : List (Kind n)) (R : Lfts n → RattleType) where
         → ((κs : Lfts n) (a : Args ended.signature κs) (g : (c κs a).ghost) → Asks 𝓛 c c' κs a g)
         → Meets 𝓛 ended.signature ((tables 𝓤 H 𝓜 𝓡 γ).C name) (closing 𝓛 ended c)
     unfolding tables_of
-    forwards code result k = forwards-from (λ κs a bs. (run f (values-in κs ks a) bs).0) code.reached result k
+    forwards code result k = forwards_from (λ κs a bs. (run f (values-in κs ks a) bs).0) code.reached result k
         (λ κs qs a g are bs Γ q. step (λ s. execs ! $
         regoal ! (λ b. runs (tables 𝓤 H 𝓜 𝓡 γ).C (tables 𝓤 H 𝓜 𝓡 γ).Λ (env f.locals bs) b q) (code.calls κs a bs)
         refl $ s))

@@ -47,20 +47,20 @@ module _ {M : Type 1} {𝓤 : Ura M} {𝓛 : Logic 𝓤} {K : Type 0} {Γ : List
       (α ∷ []) ys b o room) $
       await t z $ pick t (λ γ. split t $ move t (0 ∷ 2 ∷ []) $ k α γ))
 
-  pub ends-loan : K → Soaks G → (R : RattleType) (zs : List R.Denot) (n b o α : ℕ) (γ : GName)
+  pub ends_loan : K → Soaks G → (R : RattleType) (zs : List R.Denot) (n b o α : ℕ) (γ : GName)
       → Step K 𝓛 (‵ (row R full_share zs b o) ∷ Γ) G (‵ (flft (α ∷ []) full_share) ∷ ‵ (flent (α ∷ []) (Held R n b o γ))
       ∷ ‵ (finally R γ zs) ∷ Γ) G
-  ends-loan t z R zs n b o α γ = step (λ s. lft_end t z $ use3 𝓛 (later (‵ ((Arr (mem R) n).own_at zs b o))) (slice_back
+  ends_loan t z R zs n b o α γ = step (λ s. lft_end t z $ use3 𝓛 (later (‵ ((Arr (mem R) n).own_at zs b o))) (slice_back
       𝓛 R (α ∷ []) γ zs n b o) $ await t z $ fsplit t $ drop t $
       use1 𝓛 (‵ (row R full_share zs b o)) (whole_out 𝓛 R zs b o) $ s)
 
   -- the same from what the callee says of the slice at its exit
-  pub loan-ends : K → Soaks G → (R : RattleType) (zs : List R.Denot) (n b o α : ℕ) (γ : GName) → (length zs ≡ n
+  pub loan_ends : K → Soaks G → (R : RattleType) (zs : List R.Denot) (n b o α : ℕ) (γ : GName) → (length zs ≡ n
       → Seq K 𝓛 (‵ (row R full_share zs b o) ∷ Γ) G)
       → Seq K 𝓛 (‵ (flft (α ∷ []) full_share) ∷ ‵ (flent (α ∷ []) (Held R n b o γ)) ∷ ‵ (fsep (finally R γ zs) (feq ℕ
       (length zs) n)) ∷ Γ) G
-  loan-ends t z R zs n b o α γ k = move t (2 ∷ []) $ fsplit t $ move t (1 ∷ []) $ feq_l t (λ l. move t (1 ∷ 2 ∷ []) $
-      ends-loan t z R zs n b o α γ $ k l)
+  loan_ends t z R zs n b o α γ k = move t (2 ∷ []) $ fsplit t $ move t (1 ∷ []) $ feq_l t (λ l. move t (1 ∷ 2 ∷ []) $
+      ends_loan t z R zs n b o α γ $ k l)
 
   pub shares_out : K → Soaks G → (R : RattleType) (ℓ : Lifetime) (ys : List R.Denot) (b o : ℕ) → Room R (length ys)
       → ((α : ℕ) (γ : GName) → Seq K 𝓛 (‵ ((ShrSlice ℓ (α ∷ []) R).own_val (record { ref_ptr = (b, o); now = ys })
@@ -74,10 +74,10 @@ module _ {M : Type 1} {𝓤 : Ura M} {𝓛 : Logic 𝓤} {K : Type 0} {Γ : List
       o))))) (lends_shr_slice 𝓛 R ℓ (α ∷ []) full_share ys b o room) $
       await t z $ pick t (λ γ. split t $ move t (0 ∷ 2 ∷ []) $ k α γ))
 
-  pub ends-share : K → Soaks G → (R : RattleType) (ys : List R.Denot) (b o α : ℕ)
+  pub ends_share : K → Soaks G → (R : RattleType) (ys : List R.Denot) (b o α : ℕ)
       → Step K 𝓛 (‵ (row R full_share ys b o) ∷ Γ) G (‵ (flft (α ∷ []) full_share) ∷ ‵ (flent (α ∷ []) ((arr_parts (shares
       R) (length ys)).part full_share ys b o)) ∷ Γ) G
-  ends-share t z R ys b o α = step (λ s. lft_end t z $ lent_back t z $ fsplit t $ drop t $ s)
+  ends_share t z R ys b o α = step (λ s. lft_end t z $ lent_back t z $ fsplit t $ drop t $ s)
 
   -- ---- a local array of unsigned integers
   pub array_row : K → (w : Width) (n x b : ℕ) → x < 2 ^ bits w → Step K 𝓛 (‵ (row (UInt w) full_share (replicate n x) b
@@ -96,5 +96,5 @@ module _ {M : Type 1} {𝓤 : Ura M} (𝓛 : Logic 𝓤) where
 
 module _ {M : Type 1} {𝓤 : Ura M} {𝓛 : Logic 𝓤} {K : Type 0} {Γ : List (Item 𝓤)} {E :
     Env 𝓤 𝓛.H} where
-  pub big-lit : K → {w : Width} {n : ℕ} → Fits w n → Opd K 𝓛 Γ E (int_big w n) (vint w n)
-  big-lit t {w} {n} z = record { go = λ Kt h. via 𝓤 (Kt (vint w n)) h (guard_i 𝓤 (Fits w n) (Kt (vint w n)) z) }
+  pub big_lit : K → {w : Width} {n : ℕ} → Fits w n → Opd K 𝓛 Γ E (int_big w n) (vint w n)
+  big_lit t {w} {n} z = record { go = λ Kt h. via 𝓤 (Kt (vint w n)) h (guard_i 𝓤 (Fits w n) (Kt (vint w n)) z) }

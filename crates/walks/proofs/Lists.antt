@@ -13,15 +13,15 @@ pub one_more : (i : ℕ) → i + 1 ≡ suc i
 one_more i = add-suc i zero ∙ ap suc (add-zero i)
 
 module _ {X : Type 0} where
-  pub take-here : (xs : List X) (n i : ℕ) (d : X) → i < n → n ≤ length xs
+  pub take_here : (xs : List X) (n i : ℕ) (d : X) → i < n → n ≤ length xs
       → drop i (take n xs) ≡ get_or xs i d ∷ drop (suc i) (take n xs)
-  take-here xs zero i d l m = absurd (not-suc-le-zero l)
-  take-here [] (suc n) i d l m = absurd (not-suc-le-zero m)
-  take-here (x ∷ xs) (suc n) zero d l m = refl
-  take-here (x ∷ xs) (suc n) (suc i) d l m = take-here xs n i d (le_of_suc-le-suc l) (le_of_suc-le-suc m)
+  take_here xs zero i d l m = absurd (not-suc-le-zero l)
+  take_here [] (suc n) i d l m = absurd (not-suc-le-zero m)
+  take_here (x ∷ xs) (suc n) zero d l m = refl
+  take_here (x ∷ xs) (suc n) (suc i) d l m = take_here xs n i d (le_of_suc-le-suc l) (le_of_suc-le-suc m)
 
-  pub take-end : (xs : List X) (n : ℕ) → drop n (take n xs) ≡ []
-  take-end xs n = drop_of_length-le (take n xs) (subst (λ (k : ℕ). k ≤ n) (sym (length-take n xs)) (min-le_left n
+  pub take_end : (xs : List X) (n : ℕ) → drop n (take n xs) ≡ []
+  take_end xs n = drop_of_length-le (take n xs) (subst (λ (k : ℕ). k ≤ n) (sym (length-take n xs)) (min-le_left n
       (length xs)))
 
   pub take_less : (m n : ℕ) (xs : List X) → m ≤ n → take m (take n xs) ≡ take m xs

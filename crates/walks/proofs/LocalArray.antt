@@ -32,7 +32,7 @@ use denote.Array.{Array, array_val, Array-repeat, Array-Lawful, each}
 use denote.ArrayMemory.{Single, Array-apart, Array-whole}
 use denote.Index.{row}
 use denote.Steps.{owned, nothing}
-use Rattle.walks.proofs.Locals.{Values, is-array, cell, cells, Holding, holding, kept, held}
+use Rattle.walks.proofs.Locals.{Values, is_array, cell, cells, Holding, holding, kept, held}
 
 module _ {M : Type 1} {𝓤 : Ura M} {𝓛 : Logic 𝓤} {K : Type 0} {Γ : List (Item 𝓤)} {G :
     Goal 𝓤 𝓛.H} where
@@ -66,9 +66,9 @@ module _ {M : Type 1} {𝓤 : Ura M} {𝓛 : Logic 𝓤} {K : Type 0} {Γ : List
 unfoldable pub filled : {X : Type 0} → ℕ → X → List X
 filled n x = replicate n x
 
-pub filled-length : {X : Type 0} (n : ℕ) (x : X) → length (filled n x) ≡ n
+pub filled_length : {X : Type 0} (n : ℕ) (x : X) → length (filled n x) ≡ n
 unfolding filled
-filled-length n x = length-replicate n x
+filled_length n x = length-replicate n x
 
 module _ {M : Type 1} {𝓤 : Ura M} {𝓛 : Logic 𝓤} {K : Type 0} {Γ : List (Item 𝓤)} {G :
     Goal 𝓤 𝓛.H} where
@@ -80,16 +80,16 @@ module _ {M : Type 1} {𝓤 : Ura M} {𝓛 : Logic 𝓤} {K : Type 0} {Γ : List
   unfolding filled
   filled_row t R single copy makes n x u b is = array_row t R single copy makes n x u b is
 
-is-each : (R : RattleType) (n : ℕ) (x : R.Denot) (u : Val) → Is R x (u ∷ [])
+is_each : (R : RattleType) (n : ℕ) (x : R.Denot) (u : Val) → Is R x (u ∷ [])
     → shadow (each R.Denot R.own (replicate n x) (replicate n u))
-is-each R zero x u is = tt
-is-each R (suc n) x u is = (is, is-each R n x u is)
+is_each R zero x u is = tt
+is_each R (suc n) x u is = (is, is_each R n x u is)
 
 module _ {M : Type 1} {𝓤 : Ura M} (𝓛 : Logic 𝓤) where
   pub array_typed : (R : RattleType) → Lawful 𝓛 R → (n : ℕ) (x : R.Denot) (u : Val) → Is R x (u ∷ [])
       → T (has_ty (ty_array (lone R.mir) n) (array_val (replicate n u))) × WT (array_val (replicate n u))
   array_typed R lawful n x u is = ((Array-Lawful 𝓛 R lawful n).typed (replicate n x) (array_val (replicate n u) ∷
-      []) (replicate n u, ((refl, length-replicate n x), is-each R n x u is))).0
+      []) (replicate n u, ((refl, length-replicate n x), is_each R n x u is))).0
 
 -- ---- arrays that lie beside the other locals
 abbrev adds : Bool → Fml → Fml → Fml
@@ -99,7 +99,7 @@ adds true P Q = fsep P Q
 abbrev pub arrays : List (Ty × ℕ) → Values → Fml
 arrays [] σ = ftrue
 arrays (e ∷ E) [] = ftrue
-arrays (e ∷ E) (x ∷ σ) = adds (is-array e.0) (cell false e.0 e.1 x) (arrays E σ)
+arrays (e ∷ E) (x ∷ σ) = adds (is_array e.0) (cell false e.0 e.1 x) (arrays E σ)
 
 abbrev hidden : Bool → Option Val → Option Val
 hidden false x = x
@@ -108,7 +108,7 @@ hidden true x = none
 abbrev pub without : List (Ty × ℕ) → Values → Values
 without [] σ = σ
 without (e ∷ E) [] = []
-without (e ∷ E) (x ∷ σ) = hidden (is-array e.0) x ∷ without E σ
+without (e ∷ E) (x ∷ σ) = hidden (is_array e.0) x ∷ without E σ
 
 module _ {M : Type 1} {𝓤 : Ura M} (𝓛 : Logic 𝓤) where
   open 𝓛 use {H}
@@ -132,8 +132,8 @@ module _ {M : Type 1} {𝓤 : Ura M} (𝓛 : Logic 𝓤) where
   parted (e ∷ E) [] = never_e 𝓤 _
   parted (e ∷ E) (x ∷ σ) = qed 𝓛 (‵ (cells false (e ∷ E) (x ∷ σ)) ∷ []) ∵ fsplit ! $ fsplit ! $ move ! (2 ∷ []) $
       use1 𝓛 (‵ (cells true E (without E σ)) ⊛ ‵ (arrays E σ)) (parted E σ) $ split ! $ move ! (2 ∷ 1 ∷ []) $
-      use2 𝓛 (‵ (cell (is-array e.0) e.0 e.1 (hidden (is-array e.0) x)) ⊛ ‵ (adds (is-array e.0) (cell
-      false e.0 e.1 x) (arrays E σ))) (part_out (is-array e.0) e.0 e.1 x (arrays E σ)) $ split ! $
+      use2 𝓛 (‵ (cell (is_array e.0) e.0 e.1 (hidden (is_array e.0) x)) ⊛ ‵ (adds (is_array e.0) (cell
+      false e.0 e.1 x) (arrays E σ))) (part_out (is_array e.0) e.0 e.1 x (arrays E σ)) $ split ! $
       move ! (0 ∷ 3 ∷ []) $ fjoin ! $ move ! (0 ∷ 2 ∷ []) $ fjoin ! $ done !
 
   joined : (E : Env 𝓤 H) (σ : Values)
@@ -144,17 +144,17 @@ module _ {M : Type 1} {𝓤 : Ura M} (𝓛 : Logic 𝓤) where
   joined (e ∷ E) [] = qed 𝓛 (‵ ffalse ∷ ‵ ftrue ∷ []) ∵ keep ! (0 ∷ []) $ by ! (never_e 𝓤 _)
   joined (e ∷ E) (x ∷ σ) = qed 𝓛 (‵ (cells true (e ∷ E) (x ∷ σ)) ∷ ‵ (arrays (e ∷ E) (x ∷ σ)) ∷ []) ∵ fsplit ! $
       fsplit ! $ move ! (0 ∷ 3 ∷ []) $
-      use2 𝓛 (‵ (cell false e.0 e.1 x) ⊛ ‵ (arrays E σ)) (part_in (is-array e.0) e.0 e.1 x (arrays E σ))
+      use2 𝓛 (‵ (cell false e.0 e.1 x) ⊛ ‵ (arrays E σ)) (part_in (is_array e.0) e.0 e.1 x (arrays E σ))
       $ split ! $ move ! (3 ∷ 1 ∷ []) $ use2 𝓛 (‵ (cells false E σ)) (joined E σ) $ move ! (1 ∷ 2 ∷ []) $ fjoin ! $
       fjoin ! $ done !
 
 module _ {M : Type 1} {𝓤 : Ura M} {𝓛 : Logic 𝓤} {K : Type 0} {Γ : List (Item 𝓤)} {G :
     Goal 𝓤 𝓛.H} {E : Env 𝓤 𝓛.H} {σ : Values} where
-  pub sends-away : K → Step K 𝓛 (‵ (kept true E (without E σ)) ∷ ‵ (arrays E σ) ∷ Γ) G (‵ (held E σ) ∷ Γ) G
-  sends-away t = step (λ s. fpick t (λ _.
+  pub sends_away : K → Step K 𝓛 (‵ (kept true E (without E σ)) ∷ ‵ (arrays E σ) ∷ Γ) G (‵ (held E σ) ∷ Γ) G
+  sends_away t = step (λ s. fpick t (λ _.
       use1 𝓛 (‵ (cells true E (without E σ)) ⊛ ‵ (arrays E σ)) (parted 𝓛 E σ) $ split t $
       fpack t (Holding true E (without E σ)) (λ _. cells true E (without E σ)) holding $ s))
 
-  pub brings-back : K → Step K 𝓛 (‵ (held E σ) ∷ Γ) G (‵ (kept true E σ) ∷ ‵ (arrays E σ) ∷ Γ) G
-  brings-back t = step (λ s. fpick t (λ _. use2 𝓛 (‵ (cells false E σ)) (joined 𝓛 E σ) $
+  pub brings_back : K → Step K 𝓛 (‵ (held E σ) ∷ Γ) G (‵ (kept true E σ) ∷ ‵ (arrays E σ) ∷ Γ) G
+  brings_back t = step (λ s. fpick t (λ _. use2 𝓛 (‵ (cells false E σ)) (joined 𝓛 E σ) $
       fpack t (Holding false E σ) (λ _. cells false E σ) holding $ s))

@@ -49,15 +49,15 @@ with_value [] i v = []
 with_value (x ∷ σ) zero v = some v ∷ σ
 with_value (x ∷ σ) (suc i) v = x ∷ with_value σ i v
 
-with-same : (σ : Values) (i : ℕ) (v : Val) → value_of σ i ≡ some v → with_value σ i v ≡ σ
-with-same [] i v e = refl
-with-same (x ∷ σ) zero v e = ap (◌∷ σ) (sym e)
-with-same (x ∷ σ) (suc i) v e = ap (x ∷◌) (with-same σ i v e)
+with_same : (σ : Values) (i : ℕ) (v : Val) → value_of σ i ≡ some v → with_value σ i v ≡ σ
+with_same [] i v e = refl
+with_same (x ∷ σ) zero v e = ap (◌∷ σ) (sym e)
+with_same (x ∷ σ) (suc i) v e = ap (x ∷◌) (with_same σ i v e)
 
-has-set : (σ : Values) (i : ℕ) (v : Val) → value_of σ i ≡ some v → T (has σ i)
-has-set [] i v e = absurd (none-ne-some v e)
-has-set (x ∷ σ) zero v e = tt
-has-set (x ∷ σ) (suc i) v e = has-set σ i v e
+has_set : (σ : Values) (i : ℕ) (v : Val) → value_of σ i ≡ some v → T (has σ i)
+has_set [] i v e = absurd (none-ne-some v e)
+has_set (x ∷ σ) zero v e = tt
+has_set (x ∷ σ) (suc i) v e = has_set σ i v e
 
 pub set_is : (σ : Values) (i : ℕ) (v : Val) → T (has σ i) → value_of (with_value σ i v) i ≡ some v
 set_is [] i v h = absurd h
@@ -78,28 +78,28 @@ known [] k i = tt
 known (x ∷ σ) k zero = k.0
 known (x ∷ σ) k (suc i) = known σ k.1 i
 
-pub known-set : (σ : Values) → AllKnown σ → (i : ℕ) (v : Val) → WT v → AllKnown (with_value σ i v)
-known-set [] k i v w = tt
-known-set (x ∷ σ) k zero v w = (w, k.1)
-known-set (x ∷ σ) k (suc i) v w = (k.0, known-set σ k.1 i v w)
+pub known_set : (σ : Values) → AllKnown σ → (i : ℕ) (v : Val) → WT v → AllKnown (with_value σ i v)
+known_set [] k i v w = tt
+known_set (x ∷ σ) k zero v w = (w, k.1)
+known_set (x ∷ σ) k (suc i) v w = (k.0, known_set σ k.1 i v w)
 
 -- ---- where m is true, arrays are away: their memory lies elsewhere in the context
-abbrev pub is-array : Ty → Bool
-is-array (ty_int w) = false
-is-array ty_bool = false
-is-array (ty_float f) = false
-is-array ty_ptr = false
-is-array (ty_ref κ μ τ) = false
-is-array (ty_array τ n) = true
-is-array ty_unit = false
-is-array (ty_struct ν τs) = false
-is-array (ty_enum ν τss) = false
-is-array (ty_named h) = false
+abbrev pub is_array : Ty → Bool
+is_array (ty_int w) = false
+is_array ty_bool = false
+is_array (ty_float f) = false
+is_array ty_ptr = false
+is_array (ty_ref κ μ τ) = false
+is_array (ty_array τ n) = true
+is_array ty_unit = false
+is_array (ty_struct ν τs) = false
+is_array (ty_enum ν τss) = false
+is_array (ty_named h) = false
 
 abbrev pub away : Bool → Ty → Bool
-away m τ = m && is-array τ
+away m τ = m && is_array τ
 
-pub here : (m : Bool) (τ : Ty) → T (not (is-array τ)) → T (not (away m τ))
+pub here : (m : Bool) (τ : Ty) → T (not (is_array τ)) → T (not (away m τ))
 here true τ h = h
 here false τ h = tt
 
@@ -227,7 +227,7 @@ module _ {M : Type 1} {𝓤 : Ura M} (𝓛 : Logic 𝓤) where
     reach : (E : Env 𝓤 H) (σ : Values) (i : ℕ) (v : Val) → value_of σ i ≡ some v → (z : Bool)
         → away m (get_or E i (no_local 𝓤 H)).0 ≡ z → ent 𝓤 (sem 𝓛 (kept m E σ)) (sep 𝓤 (At E i v) (Way E σ i))
     reach E σ i v e false g = subst (λ (x : Option Val). ent 𝓤 (sem 𝓛 (kept m E σ)) (sep 𝓤 (sem 𝓛 (cell false
-        (get_or E i (no_local 𝓤 H)).0 (get_or E i (no_local 𝓤 H)).1 x)) (Way E σ i))) e (out E σ i (has-set σ i v e) g)
+        (get_or E i (no_local 𝓤 H)).0 (get_or E i (no_local 𝓤 H)).1 x)) (Way E σ i))) e (out E σ i (has_set σ i v e) g)
     reach E σ i v e true g = qed 𝓛 (‵ (kept m E σ) ∷ []) ∵ fpick ! (λ _. by ! (lost _ E σ i v g e))
 
     typed : (E : Env 𝓤 H) (σ : Values) → ent 𝓤 (sem 𝓛 (kept m E σ)) (guard 𝓤 (AllKnown σ) (sem 𝓛 (kept m E σ)))
@@ -255,7 +255,7 @@ module _ {M : Type 1} {𝓤 : Ura M} {𝓛 : Logic 𝓤} {K : Type 0} {m : Bool}
       m E (with_value σ i u)))
   local t i {v} e = record {
     out = reach 𝓛 m E σ i v e (away m (get_or E i (no_local 𝓤 H)).0) refl;
-    same = ap (λ (s : Values). ‵ (kept m E s)) (with-same σ i v e);
+    same = ap (λ (s : Values). ‵ (kept m E s)) (with_same σ i v e);
   }
 
   module _ {Γ : List (Item 𝓤)} where
@@ -287,56 +287,56 @@ module _ {M : Type 1} {𝓤 : Ura M} {𝓛 : Logic 𝓤} {K : Type 0} {m : Bool}
         b = (get_or E i (no_local 𝓤 H)).1
 
     -- a call's result is stored in a local
-    pub lands-kept : K → {C : Calls 𝓤 H} {Λ : Loops 𝓤 H} {q : Post 𝓤 H} {rest : Body} {i : ℕ} {v : Val} → T (has σ i)
+    pub lands_kept : K → {C : Calls 𝓤 H} {Λ : Loops 𝓤 H} {q : Post 𝓤 H} {rest : Body} {i : ℕ} {v : Val} → T (has σ i)
         → T (not (away m (get_or E i (no_local 𝓤 H)).0)) → T (has_ty (get_or E i (no_local 𝓤 H)).0 v) × WT v
         → Step K 𝓛 (‵ (kept m E (with_value σ i v)) ∷ Γ) (runs C Λ E rest q) (‵ (kept m E σ) ∷ Γ) (lands C Λ E (place i
         []) v rest q)
-    lands-kept t {C} {Λ} {q} {rest} {i} {v} h g wt = land t (from t (stop t)) (sets t i v h g wt)
+    lands_kept t {C} {Λ} {q} {rest} {i} {v} h g wt = land t (from t (stop t)) (sets t i v h g wt)
 
 module _ {M : Type 1} {𝓤 : Ura M} {𝓛 : Logic 𝓤} {K : Type 0} {E : Env 𝓤 𝓛.H} {σ : Values}
   where
     open 𝓛 use {H}
 
     module _ {Γ : List (Item 𝓤)} where
-      pub lands-in : K → {C : Calls 𝓤 H} {Λ : Loops 𝓤 H} {q : Post 𝓤 H} {rest : Body} {i : ℕ} {v : Val} → T (has σ i)
+      pub lands_in : K → {C : Calls 𝓤 H} {Λ : Loops 𝓤 H} {q : Post 𝓤 H} {rest : Body} {i : ℕ} {v : Val} → T (has σ i)
           → T (has_ty (get_or E i (no_local 𝓤 H)).0 v) × WT v
           → Step K 𝓛 (‵ (held E (with_value σ i v)) ∷ Γ) (runs C Λ E rest q) (‵ (held E σ) ∷ Γ) (lands C Λ E (place i
           []) v rest q)
-      lands-in t {C} {Λ} {q} {rest} {i} {v} h wt = lands-kept t h tt wt
+      lands_in t {C} {Λ} {q} {rest} {i} {v} h wt = lands_kept t h tt wt
 
       -- the function returns what local 0 holds, and its locals are freed. At a return, q is what `at_ret E Kf` is
-      pub ends-within : K → {C : Calls 𝓤 H} {Λ : Loops 𝓤 H} {q : Post 𝓤 H} (Kf : Val → SProp 𝓤) {r : Val}
+      pub ends_within : K → {C : Calls 𝓤 H} {Λ : Loops 𝓤 H} {q : Post 𝓤 H} (Kf : Val → SProp 𝓤) {r : Val}
           → post 𝓤 H q returnsᴼ ≡ at_return 𝓤 H E Kf returnsᴼ → value_of σ zero ≡ some r
           → Step K 𝓛 Γ (prop (Kf r)) (‵ (held E σ) ∷ Γ) (runs C Λ E return q)
-      ends-within t Kf is e = step (λ s. returns_within t Kf is (look_in t 0 (local t 0 e)) $ fpick t (λ _. freed t E σ
+      ends_within t Kf is e = step (λ s. returns_within t Kf is (look_in t 0 (local t 0 e)) $ fpick t (λ _. freed t E σ
           $ s))
 
       pub ends : K → {C : Calls 𝓤 H} {Λ : Loops 𝓤 H} {Kf : Val → SProp 𝓤} {r : Val} → value_of σ zero ≡ some r
           → Step K 𝓛 Γ (prop (Kf r)) (‵ (held E σ) ∷ Γ) (runs C Λ E return (at_ret E Kf))
-      ends t {Kf = Kf} e = ends-within t Kf refl e
+      ends t {Kf = Kf} e = ends_within t Kf refl e
 
 -- ---- a function's entry. Its locals lie in the blocks bs, whatever those are
 abbrev pub env : List Local → (ℕ → ℕ) → List (Ty × ℕ)
 env [] bs = []
 env (localᴹ τ h ∷ ls) bs = (τ, bs 0) ∷ env ls (λ k. bs (suc k))
 
-abbrev then-blocks : ℕ → (ℕ → ℕ) → ℕ → ℕ
-then-blocks b bs zero = b
-then-blocks b bs (suc k) = bs k
+abbrev then_blocks : ℕ → (ℕ → ℕ) → ℕ → ℕ
+then_blocks b bs zero = b
+then_blocks b bs (suc k) = bs k
 
 abbrev unset : List Local → Values
 unset [] = []
 unset (l ∷ ls) = none ∷ unset ls
 
 -- the parameters set, and the rest not
-abbrev params-set : List Local → List Val → Values
-params-set [] vs = []
-params-set (l ∷ ls) [] = none ∷ unset ls
-params-set (l ∷ ls) (v ∷ vs) = some v ∷ params-set ls vs
+abbrev params_set : List Local → List Val → Values
+params_set [] vs = []
+params_set (l ∷ ls) [] = none ∷ unset ls
+params_set (l ∷ ls) (v ∷ vs) = some v ∷ params_set ls vs
 
 abbrev pub at_entry : List Local → List Val → Values
 at_entry [] vs = []
-at_entry (l ∷ ls) vs = none ∷ params-set ls vs
+at_entry (l ∷ ls) vs = none ∷ params_set ls vs
 
 -- the parameters are of their types
 abbrev Params : List Local → List Val → Type 0
@@ -358,10 +358,10 @@ module _ {M : Type 1} {𝓤 : Ura M} {𝓛 : Logic 𝓤} {K : Type 0} where
   allocated t [] Kt Γ k = alloc0 t $ use0 𝓛 (‵ ftrue) (id⊢ 𝓤 (emp 𝓤)) $ k (λ _. zero)
   allocated t (localᴹ τ h ∷ ls) Kt Γ k = alloc1 t (λ b. allocated t ls (λ E. Kt ((τ, b) ∷ E)) (‵ (froom τ b zero) ∷ ‵
       (fdies τ b) ∷ Γ) (λ bs.
-      move t (1 ∷ 2 ∷ []) $ fjoin t $ fjoin t $ k (then-blocks b bs)))
+      move t (1 ∷ 2 ∷ []) $ fjoin t $ fjoin t $ k (then_blocks b bs)))
 
   passed : K → (ls : List Local) (bs : ℕ → ℕ) (vs : List Val) → Params ls vs → {Γ : List (Item 𝓤)} {g : Goal 𝓤 H}
-      → Step K 𝓛 (‵ (cells false (env ls bs) (params-set ls vs)) ∷ Γ) g (‵ (cells false (env ls bs) (unset ls)) ∷ Γ)
+      → Step K 𝓛 (‵ (cells false (env ls bs) (params_set ls vs)) ∷ Γ) g (‵ (cells false (env ls bs) (unset ls)) ∷ Γ)
       (passes (env ls bs) vs g)
   unfolding cells
   passed t [] bs [] p = pass0 t

@@ -18,9 +18,9 @@ use types.Logic.{Logic}
 use types.Kit.{Item, Post, post, any_q, prop, runs, Seq}
 use types.Run.{Below, loops, again}
 
-pub by-test {ℓ} : (P : Bool → Type ℓ) (t : Bool) → (t ≡ true → P true) → (t ≡ false → P false) → P t
-by-test P true held failed = held refl
-by-test P false held failed = failed refl
+pub by_test {ℓ} : (P : Bool → Type ℓ) (t : Bool) → (t ≡ true → P true) → (t ≡ false → P false) → P t
+by_test P true held failed = held refl
+by_test P false held failed = failed refl
 
 abbrev pub Less : {X : Type 0} → (X → ℕ) → X → X → Type 0
 Less μ t' t = μ t' < μ t
@@ -28,11 +28,11 @@ Less μ t' t = μ t' < μ t
 module _ {M : Type 1} {𝓤 : Ura M} {𝓛 : Logic 𝓤} {K : Type 0} {X : Type 0} where
   open 𝓛 use {H}
 
-  pub state-loop : K → (𝓣 : Tables 𝓤 H) (μ : X → ℕ) (I : X → List (Item 𝓤)) {E : Env 𝓤 H} {b : Body} {q : Post 𝓤 H}
+  pub state_loop : K → (𝓣 : Tables 𝓤 H) (μ : X → ℕ) (I : X → List (Item 𝓤)) {E : Env 𝓤 H} {b : Body} {q : Post 𝓤 H}
       → ((t : X) → Seq K 𝓛 (I t) (runs 𝓣.C 𝓣.Λ E b (any_q (after_turn 𝓤 H (Below 𝓛 (Less μ) I t) (post 𝓤 H
       q))))) → (t : X) → Seq K 𝓛 (I t) (runs 𝓣.C 𝓣.Λ E (loop b) q)
-  state-loop k 𝓣 μ I turn t = loops k 𝓣 (Less μ) (InvImage.wf μ lt-wf_rel.wf) I turn t
+  state_loop k 𝓣 μ I turn t = loops k 𝓣 (Less μ) (InvImage.wf μ lt-wf_rel.wf) I turn t
 
-  pub next-turn : K → (μ : X → ℕ) (I : X → List (Item 𝓤)) (t t' : X) → μ t' < μ t
+  pub next_turn : K → (μ : X → ℕ) (I : X → List (Item 𝓤)) (t t' : X) → μ t' < μ t
       → Seq K 𝓛 (I t') (prop (Below 𝓛 (Less μ) I t))
-  next-turn k μ I t t' lt = again k (Less μ) I t t' lt
+  next_turn k μ I t t' lt = again k (Less μ) I t t' lt

@@ -81,7 +81,7 @@ module _ {M : Type 1} {𝓤 : Ura M} {𝓛 : Logic 𝓤} {K : Type 0} {Γ : List
         x.ref_ptr.0 x.ref_ptr.1 (λ q'. move t (2 ∷ []) $ drop t $ k q')
 
   module _ {C : Calls 𝓤 H} {Λ : Loops 𝓤 H} {q : Post 𝓤 H} {E : Env 𝓤 H} {σ : Values} {rest : Body} where
-    pub reads-elem : K → (D : Data) (q' : Share) (ys : List D.type.Denot) (k : ℕ) (d : D.type.Denot) (b o : ℕ)
+    pub reads_elem : K → (D : Data) (q' : Share) (ys : List D.type.Denot) (k : ℕ) (d : D.type.Denot) (b o : ℕ)
         → k < length ys → {p i : ℕ} → value_of σ p ≡ some (vptr b (k * (mem D.type).size + o)) → T (has σ i)
         → (get_or E i (no_local 𝓤 H)).0 ≡ D.ty
         → (Is D.type (get_or ys k d) (D.val (get_or ys k d) ∷ [])
@@ -89,37 +89,37 @@ module _ {M : Type 1} {𝓤 : Ura M} {𝓛 : Logic 𝓤} {K : Type 0} {Γ : List
         rest q))
         → Seq K 𝓛 (‵ (held E σ) ∷ ‵ (row D.type q' ys b o) ∷ Γ) (runs C Λ E (seq (assign (place i []) (rv_opd (copy
         (place p (deref D.ty ∷ []))))) rest) q)
-    reads-elem t D q' ys k d b o l {p} {i} at_p h is-ty next =
+    reads_elem t D q' ys k d b o l {p} {i} at_p h is_ty next =
         let x = get_or ys k d in
         let spot = place_of (mem D.type).size o k in
         move t (1 ∷ []) $
         elem_out t D.type (Is D.type) (shows 𝓛 D.type) (λ y. D.val y ∷ []) D.tells q' ys k d b o l (λ
-        is. rewrite t 0 (λ (τs : List Ty). ‵ (cell_at q' τs (D.val x ∷ []) b spot)) D.is-ty refl $ move t (3 ∷ []) $
+        is. rewrite t 0 (λ (τs : List Ty). ‵ (cell_at q' τs (D.val x ∷ []) b spot)) D.is_ty refl $ move t (3 ∷ []) $
         assigns t (of_opd t (load t (from t (hop t (look_in t 0 (local t p (at_p ∙ ap (λ (m : ℕ). some (vptr b m)) (sym
         (place_is (mem D.type).size o k))))) (stop t))) (look_raw t 1 refl))) (from t (stop t))
-        (sets t i (D.val x) h tt (fits_in 𝓛 D x _ is-ty is)) $
+        (sets t i (D.val x) h tt (fits_in 𝓛 D x _ is_ty is)) $
         move t (1 ∷ 2 ∷ 3 ∷ []) $
-        rewrite t 0 (λ (τs : List Ty). ‵ (cell_at q' τs (D.val x ∷ []) b spot)) (sym D.is-ty) refl $
+        rewrite t 0 (λ (τs : List Ty). ‵ (cell_at q' τs (D.val x ∷ []) b spot)) (sym D.is_ty) refl $
         elem_back t D.type q' ys k d (D.val x ∷ []) b o l $ move t (1 ∷ []) $ next is)
 
-    pub writes-elem : K → (D : Data) (ys : List D.type.Denot) (k : ℕ) (y : D.type.Denot) (b o : ℕ) → k < length ys
+    pub writes_elem : K → (D : Data) (ys : List D.type.Denot) (k : ℕ) (y : D.type.Denot) (b o : ℕ) → k < length ys
         → {p : ℕ} {x : Operand} → value_of σ p ≡ some (vptr b (k * (mem D.type).size + o))
         → value E σ x ≡ some (D.val y) → Is D.type y (D.val y ∷ [])
         → Step K 𝓛 (‵ (held E σ) ∷ ‵ (row D.type full_share (set ys k y) b o) ∷ Γ) (runs C Λ E rest q) (‵ (held E σ)
         ∷ ‵ (row D.type full_share ys b o) ∷ Γ) (runs C Λ E (seq (assign (place p (deref D.ty ∷ [])) (rv_opd x))
         rest) q)
-    writes-elem t D ys k y b o l {p} {x} at_p is_y is = step (λ s.
+    writes_elem t D ys k y b o l {p} {x} at_p is_y is = step (λ s.
         let spot = place_of (mem D.type).size o k in
         move t (1 ∷ []) $
         elem_out t D.type (Is D.type) (shows 𝓛 D.type) (λ z. D.val z ∷ []) D.tells full_share ys k y b o
-        l (λ _. rewrite t 0 (λ (τs : List Ty). ‵ (cell_at full_share τs (D.val (get_or ys k y) ∷ []) b spot)) D.is-ty
+        l (λ _. rewrite t 0 (λ (τs : List Ty). ‵ (cell_at full_share τs (D.val (get_or ys k y) ∷ []) b spot)) D.is_ty
         refl $ move t (3 ∷ []) $
         assigns t (of_opd t (reads t 𝓛 _ E σ 0 refl x (D.val y) is_y))
         (from t (hop t (look_in t 0 (local t p (at_p ∙ ap (λ (m : ℕ). some (vptr b m)) (sym (place_is (mem D.type
         ).size o k))))) (stop t)))
         (store_raw t 1 refl (fits_in 𝓛 D y D.ty refl is)) $
         move t (1 ∷ []) $
-        rewrite t 0 (λ (τs : List Ty). ‵ (cell_at full_share τs (D.val y ∷ []) b spot)) (sym D.is-ty) refl $
+        rewrite t 0 (λ (τs : List Ty). ‵ (cell_at full_share τs (D.val y ∷ []) b spot)) (sym D.is_ty) refl $
         move t (2 ∷ []) $ drop t $
         owned t D.type (Is D.type) (D.makes _ 𝓤 𝓛) y (D.val y ∷ []) is $ move t (1 ∷ 0 ∷ 3 ∷ []) $
         elem_put t D.type full_share ys k y (D.val y ∷ []) b o l $ move t (1 ∷ []) $ s))

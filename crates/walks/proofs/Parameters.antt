@@ -35,11 +35,11 @@ use denote.Struct.Values.{Values, intos}
 use denote.Triple.End.{Kepts, Fins, lasts_of}
 use Rattle.walks.proofs.Forward.{Kind, passed_on}
 
-pub all-fields : {M : Type 1} {𝓤 : Ura M} (𝓛 : Logic 𝓤) (D : Declared) (L : LL.Laws D)
+pub all_fields : {M : Type 1} {𝓤 : Ura M} (𝓛 : Logic 𝓤) (D : Declared) (L : LL.Laws D)
     (v : Values D.parts) (w : Val)
     → ent 𝓤 (sem 𝓛 ((Struct (shape D)).own_val (intos D.parts v) (w ∷ []))) (sep 𝓤 (sem 𝓛 (all_own D.parts L
     v)) (emp 𝓤))
-all-fields 𝓛 D L v w = qed 𝓛 (‵ ((Struct (shape D)).own_val (intos D.parts v) (w ∷ [])) ∷ []) ∵
+all_fields 𝓛 D L v w = qed 𝓛 (‵ ((Struct (shape D)).own_val (intos D.parts v) (w ∷ [])) ∷ []) ∵
     use1 𝓛 (given (w ∷ [] ≡ vstruct (spelled D.parts L v) ∷ []) (‵ (all_own D.parts L v))) (own_open 𝓛 D L
     v w) $ learn ! (λ _. frame ! $ nothing ! $ done !)
 
@@ -60,11 +60,11 @@ pub record Parts (n : ℕ) (R : Lfts n → RattleType) (val : (κs : Lfts n) →
       (left ((R κs).exit yes) x (last κs x ws))))
 
 -- and the other way, beside a fact that owns nothing
-pub put-together : {M : Type 1} {𝓤 : Ura M} (𝓛 : Logic 𝓤) (D : Declared) (L : LL.Laws D)
+pub put_together : {M : Type 1} {𝓤 : Ura M} (𝓛 : Logic 𝓤) (D : Declared) (L : LL.Laws D)
     (v : Values D.parts) (P : Fml) → ent 𝓤 (emp 𝓤) (sem 𝓛 P)
     → ent 𝓤 (sem 𝓛 (all_own D.parts L v)) (𝓛.H.⇛ (sep 𝓤 (sem 𝓛 ((Struct (shape D)).own_val (intos D.parts v)
     (vstruct (spelled D.parts L v) ∷ []))) (sem 𝓛 P)))
-put-together 𝓛 D L v P holds = qed 𝓛 (‵ (all_own D.parts L v) ∷ []) ∵ suffices ! _ (𝓛.laws.⇛_intro _) $
+put_together 𝓛 D L v P holds = qed 𝓛 (‵ (all_own D.parts L v) ∷ []) ∵ suffices ! _ (𝓛.laws.⇛_intro _) $
     use1 𝓛 (‵ ((Struct (shape D)).own_val (intos D.parts v) (vstruct (spelled D.parts L v) ∷ []))) (own_shut 𝓛 D
     L v) $ frame ! $ use0 𝓛 (‵ P) holds $ done !
 

@@ -38,11 +38,11 @@ use denote.Triple.End.{Kepts, Fins, lasts_of}
 use denote.Triple.Entry.{Args}
 use denote.Triple.Statement.{Triple}
 use denote.Triple.Walked.{Goes-slice}
-use Rattle.walks.proofs.Ask.{asked, calls-on}
+use Rattle.walks.proofs.Ask.{asked, calls_on}
 use Rattle.walks.proofs.Data.{Data, Argument, made, had, kinds, Facts, haves}
 use Rattle.walks.proofs.Enter.{Of}
 use Rattle.walks.proofs.Forward.{params, values-in}
-use Rattle.walks.proofs.Locals.{Values, value_of, has, with_value, kept, held, ends-within}
+use Rattle.walks.proofs.Locals.{Values, value_of, has, with_value, kept, held, ends_within}
 use Rattle.walks.proofs.Straight.{values}
 use Rattle.walks.proofs.Walk.{Shows, Ends}
 
@@ -180,7 +180,7 @@ module _ {M : Type 1} {𝓤 : Ura M} (𝓛 : Logic 𝓤) where
           → Ends xs R 𝓛 ψ κs qs a Kf → (r : R.type.Denot) (ws : Lasts (asked xs R) κs a)
           → Is R.type r (R.val r ∷ []) → ψ κs a r ws → value_of σ zero ≡ someᴼ (R.val r)
           → Seq (Go {0}) 𝓛 (‵ (held E σ) ∷ (after κs qs a ws ++ Γ)) (runs C Λ E return q)
-      finishes Γ ψ Kf at-end ends r ws is shown e = ends-within ! Kf at-end e $
+      finishes Γ ψ Kf at-end ends r ws is shown e = ends_within ! Kf at-end e $
           instead (after κs qs a ws ++ Γ) (raw (toks 𝓛 n κs qs) ∷ ‵ (lasts (asked xs R) κs a ws) ∷ Γ)
           (together (tokens 𝓛 n κs qs) (lasts-said 𝓛 κs (asked xs R).signature.params (asked xs R).kept a ws)
           Γ (toks 𝓛 n κs qs) (lasts (asked xs R) κs a ws) (tokens-alive 𝓛 n κs qs)
@@ -200,11 +200,11 @@ module _ {M : Type 1} {𝓤 : Ura M} (𝓛 : Logic 𝓤) where
           rest
           q)) → Seq (Go {0}) 𝓛 (‵ (kept m E σ) ∷ (before κs qs a ++ Γ)) (runs 𝓣.C 𝓣.Λ E (seq (call f os (place i
           [])) rest) q)
-      passes 𝓣 {q} {m} {E} {σ} {f} {os} {i} {rest} Γ c g known facts may reads holds is-ty φ says k =
+      passes 𝓣 {q} {m} {E} {σ} {f} {os} {i} {rest} Γ c g known facts may reads holds is_ty φ says k =
           instead (‵ (kept m E σ) ∷ (before κs qs a ++ Γ)) (‵ (kept m E σ) ∷ raw (toks 𝓛 n κs qs) ∷ ‵ (haves κs xs a)
           ∷ Γ)
           (under (‵ (kept m E σ)) (before κs qs a ++ Γ) (raw (toks 𝓛 n κs qs) ∷ ‵ (haves κs xs a) ∷ Γ) (into Γ)) $
-          calls-on ! 𝓣 {f = f} {os = os} n xs R c known κs qs a g facts may reads holds is-ty φ says (λ r ws e is.
+          calls_on ! 𝓣 {f = f} {os = os} n xs R c known κs qs a g facts may reads holds is_ty φ says (λ r ws e is.
           let Σ = ‵ (kept m E (with_value σ i (R.val r))) in
           instead (Σ ∷ raw (toks 𝓛 n κs qs) ∷ ‵ (lasts (asked xs R) κs a ws) ∷ Γ) (Σ ∷ (after κs qs a ws ++ Γ))
           (under Σ (raw (toks 𝓛 n κs qs) ∷ ‵ (lasts (asked xs R) κs a ws) ∷ Γ) (after κs qs a ws ++ Γ) (apart (tokens

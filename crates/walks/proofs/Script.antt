@@ -23,17 +23,17 @@ pub use denote.Steps.{nothing}
 pub use denote.Triple.Entry.{Args}
 pub use denote.Triple.Statement.{Triple}
 pub use denote.Triple.Table.{cited}
-pub use Rattle.walks.proofs.Ask.{asked, Knows, calls-on, calls-on-last, settled, calls-equal, calls-giving}
+pub use Rattle.walks.proofs.Ask.{asked, Knows, calls_on, calls_on_last, settled, calls_equal, calls_giving}
 pub use Rattle.walks.proofs.Data.{Argument, made, had, uint, kinds}
 pub use Rattle.walks.proofs.Enter.{Of}
 pub use Rattle.walks.proofs.Forward.{values-in}
-pub use Rattle.walks.proofs.Lend.{lends, loan-ends, shares_out, ends-share}
-pub use Rattle.walks.proofs.Locals.{Values, env, held, sets, ends as returns, ends-within}
-pub use Rattle.walks.proofs.LocalArray.{sends-away, brings-back}
-pub use Rattle.walks.proofs.Open.{Open, opens, closes, unopened, looks, reads-elem, writes-elem}
+pub use Rattle.walks.proofs.Lend.{lends, loan_ends, shares_out, ends_share}
+pub use Rattle.walks.proofs.Locals.{Values, env, held, sets, ends as returns, ends_within}
+pub use Rattle.walks.proofs.LocalArray.{sends_away, brings_back}
+pub use Rattle.walks.proofs.Open.{Open, opens, closes, unopened, looks, reads_elem, writes_elem}
 pub use Rattle.walks.proofs.Parameters.{lent, shared}
 pub use Rattle.walks.proofs.Straight.{execs}
 pub use Rattle.walks.proofs.Tuple.{◌▸◌}
-pub use Rattle.walks.proofs.Turn.{operates, operates-last, whiles, forks}
-pub use Rattle.walks.proofs.Walk.{Valid, Asks, Shows, Ends, Begun, meets, token, token-of, tokens, tokens-of}
-pub use Rattle.walks.proofs.Walk.{unties, ties, only-last}
+pub use Rattle.walks.proofs.Turn.{operates, operates_last, whiles, forks}
+pub use Rattle.walks.proofs.Walk.{Valid, Asks, Shows, Ends, Begun, meets, token, token_of, tokens, tokens_of}
+pub use Rattle.walks.proofs.Walk.{unties, ties, only_last}

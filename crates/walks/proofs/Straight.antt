@@ -35,9 +35,9 @@ use types.Run.{of_opd, addr, bin, assigns}
 use types.Part.{Part, sub, agg, look_in}
 use denote.Triple.Statement.{Contract, Triple}
 use denote.Triple.Call.{calls_at}
-use Rattle.walks.proofs.Lend.{big-lit}
-use Rattle.walks.proofs.Locals.{Values, value_of, has, with_value, AllKnown, Known, known, known-set, kept}
-use Rattle.walks.proofs.Locals.{local, knows, sets, is-array, here as not-away}
+use Rattle.walks.proofs.Lend.{big_lit}
+use Rattle.walks.proofs.Locals.{Values, value_of, has, with_value, AllKnown, Known, known, known_set, kept}
+use Rattle.walks.proofs.Locals.{local, knows, sets, is_array, here as not-away}
 
 abbrev pub bind : {X Y : Type 0} → Option X → (X → Option Y) → Option Y
 bind none f = none
@@ -54,25 +54,25 @@ module _ {X Y : Type 0} where
   bound (some x) f y e = record { got = x; is = refl; then = e }
 
 -- ---- a field of a value
-abbrev fields-of : Ty → Option Tys
-fields-of (ty_int w) = none
-fields-of ty_bool = none
-fields-of (ty_float f) = none
-fields-of ty_ptr = none
-fields-of (ty_ref κ μ τ) = none
-fields-of (ty_array τ n) = none
-fields-of ty_unit = none
-fields-of (ty_struct ν τs) = some τs
-fields-of (ty_enum ν τss) = none
-fields-of (ty_named h) = none
+abbrev fields_of : Ty → Option Tys
+fields_of (ty_int w) = none
+fields_of ty_bool = none
+fields_of (ty_float f) = none
+fields_of ty_ptr = none
+fields_of (ty_ref κ μ τ) = none
+fields_of (ty_array τ n) = none
+fields_of ty_unit = none
+fields_of (ty_struct ν τs) = some τs
+fields_of (ty_enum ν τss) = none
+fields_of (ty_named h) = none
 
-abbrev parts-of : Val → Option Vals
-parts-of vunit = none
-parts-of (vbool b) = none
-parts-of (vint w n) = none
-parts-of (vfloat f x) = none
-parts-of (vptr b o) = none
-parts-of (vstruct vs) = some vs
+abbrev parts_of : Val → Option Vals
+parts_of vunit = none
+parts_of (vbool b) = none
+parts_of (vint w n) = none
+parts_of (vfloat f x) = none
+parts_of (vptr b o) = none
+parts_of (vstruct vs) = some vs
 
 abbrev pointer : Val → Option Val
 pointer vunit = none
@@ -83,7 +83,7 @@ pointer (vptr b o) = some (vptr b o)
 pointer (vstruct vs) = none
 
 abbrev into : Ty → Val → ℕ → Option (Ty × Val)
-into τ v k = bind (fields-of τ) (λ τs. bind (parts-of v) (λ vs. bind (field_at zero τs k) (λ f. some (f.0, get_v vs k))))
+into τ v k = bind (fields_of τ) (λ τs. bind (parts_of v) (λ vs. bind (field_at zero τs k) (λ f. some (f.0, get_v vs k))))
 
 -- a field of a field, and so on
 abbrev along : Ty → Val → List PStep → Option (Ty × Val)
@@ -117,18 +117,18 @@ small (vstruct vs) = false
 abbrev unchecked : Op2 → Val → Val → Option Val
 unchecked o a b = cond (unasked (op2_chk o a b) && small (op2_val o a b)) (some (op2_val o a b)) none
 
-unasked-dom : (c : Chk) → T (unasked c) → Dom c
-unasked-dom ok h = tt
-unasked-dom bad h = absurd h
-unasked-dom (need P) h = absurd h
+unasked_dom : (c : Chk) → T (unasked c) → Dom c
+unasked_dom ok h = tt
+unasked_dom bad h = absurd h
+unasked_dom (need P) h = absurd h
 
-small-known : (v : Val) → T (small v) → WT v
-small-known vunit h = absurd h
-small-known (vbool b) h = tt
-small-known (vint w n) h = absurd h
-small-known (vfloat f x) h = absurd h
-small-known (vptr b o) h = tt
-small-known (vstruct vs) h = absurd h
+small_known : (v : Val) → T (small v) → WT v
+small_known vunit h = absurd h
+small_known (vbool b) h = tt
+small_known (vint w n) h = absurd h
+small_known (vfloat f x) h = absurd h
+small_known (vptr b o) h = tt
+small_known (vstruct vs) h = absurd h
 
 module _ (E : List (Ty × ℕ)) (σ : Values) where
   abbrev type-of : ℕ → Ty
@@ -161,7 +161,7 @@ module _ (E : List (Ty × ℕ)) (σ : Values) where
   abbrev stored : Body → Option Values
   stored skip = none
   stored (seq a b) = none
-  stored (assign (place i []) r) = bind (right r) (λ v. cond (has σ i && (not (is-array (type-of i)) && has_ty (type-of
+  stored (assign (place i []) r) = bind (right r) (λ v. cond (has σ i && (not (is_array (type-of i)) && has_ty (type-of
       i) v)) (some (with_value σ i v)) none)
   stored (assign (place i (s ∷ st)) r) = none
   stored (block b) = none
@@ -189,51 +189,51 @@ exec E σ return = (σ, return)
 exec E σ (call f xs d) = (σ, call f xs d)
 
 -- ---- what is read fits its type
-part-known : (vs : Vals) (k : ℕ) → WTs vs → WT (get_v vs k)
-part-known vnil k w = tt
-part-known (vcons v vs) zero w = w.0
-part-known (vcons v vs) (suc k) w = part-known vs k w.1
+part_known : (vs : Vals) (k : ℕ) → WTs vs → WT (get_v vs k)
+part_known vnil k w = tt
+part_known (vcons v vs) zero w = w.0
+part_known (vcons v vs) (suc k) w = part_known vs k w.1
 
-parts-known : (v : Val) (vs : Vals) → parts-of v ≡ some vs → WT v → WTs vs
-parts-known vunit vs e w = absurd (none-ne-some vs e)
-parts-known (vbool b) vs e w = absurd (none-ne-some vs e)
-parts-known (vint x n) vs e w = absurd (none-ne-some vs e)
-parts-known (vfloat f x) vs e w = absurd (none-ne-some vs e)
-parts-known (vptr b o) vs e w = absurd (none-ne-some vs e)
-parts-known (vstruct us) vs e w = subst WTs (some-injective us vs e) w
+parts_known : (v : Val) (vs : Vals) → parts_of v ≡ some vs → WT v → WTs vs
+parts_known vunit vs e w = absurd (none-ne-some vs e)
+parts_known (vbool b) vs e w = absurd (none-ne-some vs e)
+parts_known (vint x n) vs e w = absurd (none-ne-some vs e)
+parts_known (vfloat f x) vs e w = absurd (none-ne-some vs e)
+parts_known (vptr b o) vs e w = absurd (none-ne-some vs e)
+parts_known (vstruct us) vs e w = subst WTs (some-injective us vs e) w
 
-into-known : (τ : Ty) (v : Val) (k : ℕ) (r : Ty × Val) → into τ v k ≡ some r → WT v → WT r.1
-into-known τ v k r e w =
-    let a = bound (fields-of τ)
-    (λ τs. bind (parts-of v) (λ vs. bind (field_at zero τs k) (λ f. some (f.0, get_v vs k)))) r e in
-    let b = bound (parts-of v) (λ vs. bind (field_at zero a.got k) (λ f. some (f.0, get_v vs k))) r a.then in
+into_known : (τ : Ty) (v : Val) (k : ℕ) (r : Ty × Val) → into τ v k ≡ some r → WT v → WT r.1
+into_known τ v k r e w =
+    let a = bound (fields_of τ)
+    (λ τs. bind (parts_of v) (λ vs. bind (field_at zero τs k) (λ f. some (f.0, get_v vs k)))) r e in
+    let b = bound (parts_of v) (λ vs. bind (field_at zero a.got k) (λ f. some (f.0, get_v vs k))) r a.then in
     let c = bound (field_at zero a.got k) (λ f. some (f.0, get_v b.got k)) r b.then in
-    subst (λ (u : Ty × Val). WT u.1) (some-injective (c.got.0, get_v b.got k) r c.then) (part-known b.got k (parts-known v b.got b.is w))
+    subst (λ (u : Ty × Val). WT u.1) (some-injective (c.got.0, get_v b.got k) r c.then) (part_known b.got k (parts_known v b.got b.is w))
 
-along-known : (τ : Ty) (v : Val) (st : List PStep) (r : Ty × Val) → along τ v st ≡ some r → WT v → WT r.1
-along-known τ v [] r e w = subst (λ (u : Ty × Val). WT u.1) (some-injective (τ, v) r e) w
-along-known τ v (field k ∷ st) r e w =
+along_known : (τ : Ty) (v : Val) (st : List PStep) (r : Ty × Val) → along τ v st ≡ some r → WT v → WT r.1
+along_known τ v [] r e w = subst (λ (u : Ty × Val). WT u.1) (some-injective (τ, v) r e) w
+along_known τ v (field k ∷ st) r e w =
     let a = bound (into τ v k) (λ u. along u.0 u.1 st) r e in
-    along-known a.got.0 a.got.1 st r a.then (into-known τ v k a.got a.is w)
-along-known τ v (deref σ ∷ st) r e w = absurd (none-ne-some r e)
-along-known τ v (variant k ∷ st) r e w = absurd (none-ne-some r e)
+    along_known a.got.0 a.got.1 st r a.then (into_known τ v k a.got a.is w)
+along_known τ v (deref σ ∷ st) r e w = absurd (none-ne-some r e)
+along_known τ v (variant k ∷ st) r e w = absurd (none-ne-some r e)
 
-pointer-known : (v u : Val) → pointer v ≡ some u → WT u
-pointer-known vunit u e = absurd (none-ne-some u e)
-pointer-known (vbool b) u e = absurd (none-ne-some u e)
-pointer-known (vint x n) u e = absurd (none-ne-some u e)
-pointer-known (vfloat f x) u e = absurd (none-ne-some u e)
-pointer-known (vptr b o) u e = subst WT (some-injective (vptr b o) u e) tt
-pointer-known (vstruct us) u e = absurd (none-ne-some u e)
+pointer_known : (v u : Val) → pointer v ≡ some u → WT u
+pointer_known vunit u e = absurd (none-ne-some u e)
+pointer_known (vbool b) u e = absurd (none-ne-some u e)
+pointer_known (vint x n) u e = absurd (none-ne-some u e)
+pointer_known (vfloat f x) u e = absurd (none-ne-some u e)
+pointer_known (vptr b o) u e = subst WT (some-injective (vptr b o) u e) tt
+pointer_known (vstruct us) u e = absurd (none-ne-some u e)
 
-behind-known : (τ : Ty) (v : Val) (st : List PStep) (u : Val) → behind τ v st ≡ some u → WT u
-behind-known τ v [] u e = absurd (none-ne-some u e)
-behind-known τ v (field k ∷ st) u e =
+behind_known : (τ : Ty) (v : Val) (st : List PStep) (u : Val) → behind τ v st ≡ some u → WT u
+behind_known τ v [] u e = absurd (none-ne-some u e)
+behind_known τ v (field k ∷ st) u e =
     let a = bound (into τ v k) (λ r. behind r.0 r.1 st) u e in
-    behind-known a.got.0 a.got.1 st u a.then
-behind-known τ v (deref σ ∷ []) u e = pointer-known v u e
-behind-known τ v (deref σ ∷ s ∷ st) u e = absurd (none-ne-some u e)
-behind-known τ v (variant k ∷ st) u e = absurd (none-ne-some u e)
+    behind_known a.got.0 a.got.1 st u a.then
+behind_known τ v (deref σ ∷ []) u e = pointer_known v u e
+behind_known τ v (deref σ ∷ s ∷ st) u e = absurd (none-ne-some u e)
+behind_known τ v (variant k ∷ st) u e = absurd (none-ne-some u e)
 
 -- a literal that fits
 tested : {X : Type 0} (t : Bool) (x y : X) → cond t (some x) none ≡ some y → T t × (x ≡ y)
@@ -249,7 +249,7 @@ module _ (E : List (Ty × ℕ)) (σ : Values) (k : AllKnown σ) where
   value-known (copy (place i st)) v e =
       let a = bound (value_of σ i) (λ u. bind (along (type-of E σ i) u st) (λ r. some r.1)) v e in
       let b = bound (along (type-of E σ i) a.got st) (λ r. some r.1) v a.then in
-      subst WT (some-injective b.got.1 v b.then) (along-known (type-of E σ i) a.got st b.got b.is (subst Known a.is (known σ k i)))
+      subst WT (some-injective b.got.1 v b.then) (along_known (type-of E σ i) a.got st b.got b.is (subst Known a.is (known σ k i)))
   value-known (int w n) v e = let h = tested (ltb n (2 ^ bits w)) (vint w n) v e in subst WT h.1 (record {
     fits =
         ltb→lt n (2 ^ bits w) h.0;
@@ -283,12 +283,12 @@ module _ (E : List (Ty × ℕ)) (σ : Values) (k : AllKnown σ) where
       let b = bound (value E σ y) (λ w. unchecked o a.got w) v a.then in
       let z = op2_val o a.got b.got in
       let h = tested (unasked (op2_chk o a.got b.got) && small z) z v b.then in
-      subst WT h.1 (small-known z (both (unasked (op2_chk o a.got b.got)) (small z) h.0).1)
+      subst WT h.1 (small_known z (both (unasked (op2_chk o a.got b.got)) (small z) h.0).1)
   right-known (op1 o x) v e = absurd (none-ne-some v e)
   right-known (addr_of (place i [])) v e = subst WT (some-injective _ v e) tt
   right-known (addr_of (place i (s ∷ st))) v e =
       let a = bound (value_of σ i) (λ u. behind (type-of E σ i) u (s ∷ st)) v e in
-      behind-known (type-of E σ i) a.got (s ∷ st) v a.then
+      behind_known (type-of E σ i) a.got (s ∷ st) v a.then
   right-known (aggregate xs) v e =
       let a = bound (values E σ xs) (λ vs. some (vstruct (of_list vs))) v e in
       subst WT (some-injective (vstruct (of_list a.got)) v a.then) (values-known xs a.got a.is)
@@ -305,7 +305,7 @@ module _ {M : Type 1} {𝓤 : Ura M} {K : Type 0} (t : K) (𝓛 : Logic 𝓤) wh
     pub lies : Part K 𝓛 i q r.0 b (o + offset) r.1 back
 
   into_struct : (i : Item 𝓤) (q : Share) (ν : Sym) (τs : Tys) (b o k : ℕ) (v : Val) (back : Val
-      → Item 𝓤) (r : Ty × Val) → Part K 𝓛 i q (ty_struct ν τs) b o v back → (vs : Option Vals) → parts-of v ≡ vs
+      → Item 𝓤) (r : Ty × Val) → Part K 𝓛 i q (ty_struct ν τs) b o v back → (vs : Option Vals) → parts_of v ≡ vs
       → bind vs (λ us. bind (field_at zero τs k) (λ f. some (f.0, get_v us k))) ≡ some r
       → Into i q (ty_struct ν τs) b o k r
   into_struct i q ν τs b o k v back r p none is e = absurd (none-ne-some r e)
@@ -334,7 +334,7 @@ module _ {M : Type 1} {𝓤 : Ura M} {K : Type 0} (t : K) (𝓛 : Logic 𝓤) wh
   into-part i q (ty_ref κ μ τ) b o k v back r p e = absurd (none-ne-some r e)
   into-part i q (ty_array τ n) b o k v back r p e = absurd (none-ne-some r e)
   into-part i q ty_unit b o k v back r p e = absurd (none-ne-some r e)
-  into-part i q (ty_struct ν τs) b o k v back r p e = into_struct i q ν τs b o k v back r p (parts-of v) refl e
+  into-part i q (ty_struct ν τs) b o k v back r p e = into_struct i q ν τs b o k v back r p (parts_of v) refl e
   into-part i q (ty_enum ν τss) b o k v back r p e = absurd (none-ne-some r e)
   into-part i q (ty_named h) b o k v back r p e = absurd (none-ne-some r e)
 
@@ -406,7 +406,7 @@ module _ {M : Type 1} {𝓤 : Ura M} {K : Type 0} (t : K) (𝓛 : Logic 𝓤) wh
       reads (int w m) v e = let h = tested (ltb m (2 ^ bits w)) (vint w m) v e in subst (Opd K 𝓛 Γ E (int w m)) h.1
           (lit t h.0)
       reads (int_neg w m) v e = absurd (none-ne-some v e)
-      reads (int_big w m) v e = let h = tested (ltb m (2 ^ bits w)) (vint w m) v e in subst (Opd K 𝓛 Γ E (int_big w m)) h.1 (big-lit t (record { fits = ltb→lt m (2 ^ bits w) h.0 }))
+      reads (int_big w m) v e = let h = tested (ltb m (2 ^ bits w)) (vint w m) v e in subst (Opd K 𝓛 Γ E (int_big w m)) h.1 (big_lit t (record { fits = ltb→lt m (2 ^ bits w) h.0 }))
       reads (float f m) v e = absurd (none-ne-some v e)
       reads opd_true v e = subst (Opd K 𝓛 Γ E opd_true) (some-injective (vbool true) v e) (true_lit t)
       reads opd_false v e = subst (Opd K 𝓛 Γ E opd_false) (some-injective (vbool false) v e) (false_lit t)
@@ -427,7 +427,7 @@ module _ {M : Type 1} {𝓤 : Ura M} {K : Type 0} (t : K) (𝓛 : Logic 𝓤) wh
           let b = bound (value E σ y) (λ w. unchecked o a.got w) v a.then in
           let z = op2_val o a.got b.got in
           let h = tested (unasked (op2_chk o a.got b.got) && small z) z v b.then in
-          let d = unasked-dom (op2_chk o a.got b.got) (both (unasked (op2_chk o a.got b.got)) (small z) h.0
+          let d = unasked_dom (op2_chk o a.got b.got) (both (unasked (op2_chk o a.got b.got)) (small z) h.0
           ).0 in
           subst (Rv K 𝓛 Γ E (op2 o x y)) h.1 (bin t (reads x a.got a.is) (reads y b.got b.is) d)
       reads-right (op1 o x) v e = absurd (none-ne-some v e)
@@ -456,17 +456,17 @@ module _ {M : Type 1} {𝓤 : Ura M} {𝓛 : Logic 𝓤} {K : Type 0} {Γ : List
   stores t E σ skip b σ' k e = absurd (none-ne-some σ' e)
   stores t E σ (seq x y) b σ' k e = absurd (none-ne-some σ' e)
   stores t E σ (assign (place i []) r) b σ' k e =
-      let a = bound (right E σ r) (λ v. cond (has σ i && (not (is-array (type-of E σ i)) && has_ty (type-of E σ i) v))
+      let a = bound (right E σ r) (λ v. cond (has σ i && (not (is_array (type-of E σ i)) && has_ty (type-of E σ i) v))
       (some (with_value σ i v)) none) σ' e
       in
-      let h = tested (has σ i && (not (is-array (type-of E σ i)) && has_ty (type-of E σ i) a.got)) (with_value σ i a.got) σ' a.then in
-      let c = both (has σ i) (not (is-array (type-of E σ i)) && has_ty (type-of E σ i) a.got) h.0 in
-      let d = both (not (is-array (type-of E σ i))) (has_ty (type-of E σ i) a.got) c.1 in
+      let h = tested (has σ i && (not (is_array (type-of E σ i)) && has_ty (type-of E σ i) a.got)) (with_value σ i a.got) σ' a.then in
+      let c = both (has σ i) (not (is_array (type-of E σ i)) && has_ty (type-of E σ i) a.got) h.0 in
+      let d = both (not (is_array (type-of E σ i))) (has_ty (type-of E σ i) a.got) c.1 in
       let w = right-known E σ k r a.got a.is in
       subst (λ (s : Values). AllKnown s × Step K 𝓛 (‵ (kept m E s) ∷ Γ) (runs C Λ E b q) (‵ (kept m E σ) ∷ Γ) (runs C Λ
       E
       (seq (assign (place i []) r) b) q)) h.1 (
-        known-set σ k i a.got w,
+        known_set σ k i a.got w,
         assigns t (reads-right t 𝓛 (‵ (kept m E σ) ∷ Γ) E σ 0 refl r a.got a.is) (from t
             (stop t)) (sets t i a.got c.0 (not-away m (type-of E σ i) d.0) (d.1, w)),
       )
@@ -506,12 +506,12 @@ module _ {M : Type 1} {𝓤 : Ura M} {𝓛 : Logic 𝓤} {K : Type 0} {Γ : List
       σ b).1 q) (‵ (kept m E σ) ∷ Γ) (runs C Λ E b q)
   execs t {E} {σ} {b} = step (λ s. knows t (λ k. runs_on t E σ b k $ s))
 
-  pub calls-in : K → FmC 𝓤 H 𝓛.laws C → {E : Env 𝓤 H} {σ : Values} {f : Name} {xs : List Operand} {d : Place} {rest
+  pub calls_in : K → FmC 𝓤 H 𝓛.laws C → {E : Env 𝓤 H} {σ : Values} {f : Name} {xs : List Operand} {d : Place} {rest
       : Body} (c : Contract 𝓤) → Triple 𝓤 (C f) c → (x : c.Ghost)
       → values E σ xs ≡ some (c.args x) → ((r : Val) → Seq K 𝓛 (raw (c.post x r) ∷ ‵ (kept m E σ) ∷ Γ) (lands C Λ E d
       r
       rest q))
       → Seq K 𝓛 (raw (c.pre x) ∷ ‵ (kept m E σ) ∷ Γ) (runs C Λ E (seq (call f xs d) rest) q)
-  calls-in t fm {E} {σ} {f} {xs} c met x e k = calls_at t fm c met x (reads_all t 𝓛 (raw (c.pre x) ∷ ‵ (kept m E σ) ∷
+  calls_in t fm {E} {σ} {f} {xs} c met x e k = calls_at t fm c met x (reads_all t 𝓛 (raw (c.pre x) ∷ ‵ (kept m E σ) ∷
       Γ)
       E σ 1 refl xs (c.args x) e) k

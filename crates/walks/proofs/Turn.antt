@@ -25,7 +25,7 @@ use types.Run.{Below, assigns, assigns_last, bin, from, stop, first, blocks, bra
 use types.Run.{exec as runs-code}
 use Rattle.walks.proofs.Locals.{Values, has, with_value, set_is, Holding, holding, cells, held, sets}
 use Rattle.walks.proofs.Locals.{kept, cell, away, emptied, is_false}
-use Rattle.walks.proofs.Loop.{by-test, Less, state-loop, next-turn}
+use Rattle.walks.proofs.Loop.{by_test, Less, state_loop, next_turn}
 use Rattle.walks.proofs.Straight.{bind, value, exec, execs, reads}
 
 module _ {M : Type 1} {𝓤 : Ura M} {𝓛 : Logic 𝓤} {K : Type 0} {Γ : List (Item 𝓤)} {C :
@@ -44,11 +44,11 @@ module _ {M : Type 1} {𝓤 : Ura M} {𝓛 : Logic 𝓤} {K : Type 0} {Γ : List
         (λ w. assigns t (bin t (reads t 𝓛 (‵ (held E σ) ∷ Γ) E σ 0 refl x a is-a) (reads t 𝓛 (‵ (held E σ) ∷ Γ) E σ 0
         refl y b is_b) dom) (from t (stop t)) (sets t i (op2_val o a b) h tt w)) wt
 
-    pub operates-last : K → (v : Val) → value E σ x ≡ some a → value E σ y ≡ some b → Dom (op2_chk o a b)
+    pub operates_last : K → (v : Val) → value E σ x ≡ some a → value E σ y ≡ some b → Dom (op2_chk o a b)
         → op2_val o a b ≡ v → T (has σ i) → T (has_ty (get_or E i (no_local 𝓤 H)).0 v) × WT v
         → Step K 𝓛 (‵ (held E (with_value σ i v)) ∷ Γ) (prop (post 𝓤 H q next)) (‵ (held E σ) ∷ Γ) (runs C Λ E (assign
         (place i []) (op2 o x y)) q)
-    operates-last t v is-a is_b dom is h wt = subst (λ (u : Val). T (has_ty (get_or E i (no_local 𝓤 H)).0 u) × WT u
+    operates_last t v is-a is_b dom is h wt = subst (λ (u : Val). T (has_ty (get_or E i (no_local 𝓤 H)).0 u) × WT u
         → Step K 𝓛 (‵ (held E (with_value σ i u)) ∷ Γ) (prop (post 𝓤 H q next)) (‵ (held E σ) ∷ Γ) (runs C Λ E (assign
         (place i []) (op2 o x y)) q)) is
         (λ w. assigns_last t (bin t (reads t 𝓛 (‵ (held E σ) ∷ Γ) E σ 0 refl x a is-a) (reads t 𝓛 (‵ (held E σ) ∷ Γ) E
@@ -84,9 +84,9 @@ module _ {M : Type 1} {𝓤 : Ura M} (𝓛 : Logic 𝓤) where
 abbrev pub tested : ℕ → Body → Body
 tested j body = seq (cond (copy (place j [])) skip (exit 1)) body
 
-set-read : (E : List (Ty × ℕ)) (σ : Values) (i : ℕ) (v : Val) → T (has σ i)
+set_read : (E : List (Ty × ℕ)) (σ : Values) (i : ℕ) (v : Val) → T (has σ i)
     → value E (with_value σ i v) (copy (place i [])) ≡ some v
-set-read E σ i v h = ap (λ (u : Option Val). bind u (λ w. some w)) (set_is σ i v h)
+set_read E σ i v h = ap (λ (u : Option Val). bind u (λ w. some w)) (set_is σ i v h)
 
 module _ {M : Type 1} {𝓤 : Ura M} {𝓛 : Logic 𝓤} {K : Type 0} {X : Type 0} where
   open 𝓛 use {H}
@@ -108,19 +108,19 @@ module _ {M : Type 1} {𝓤 : Ura M} {𝓛 : Logic 𝓤} {K : Type 0} {X : Type 
       let turned : X → Post 𝓤 H = λ u. any_q (after_turn 𝓤 H (Below 𝓛 (Less μ) I u) (after_block 𝓤 H (after_seq 𝓤 H (Wp
       𝓤 H 𝓣.C 𝓣.Λ E rest (post 𝓤 H q)) (post 𝓤 H q)))) in
       first z $ blocks z $
-      state-loop z 𝓣 μ I (λ u. execs z $
+      state_loop z 𝓣 μ I (λ u. execs z $
       rewrite z 0 (λ (s : Values). ‵ (kept m E s)) (ap (λ (w : Values × Body). w.0) (tests u)) refl $
       regoal z (λ b. runs 𝓣.C 𝓣.Λ E b (turned u)) (ap (λ (w : Values × Body). w.1) (tests u)) refl $
-      by-test (λ h. test u ≡ h
+      by_test (λ h. test u ≡ h
       → Seq K 𝓛 (‵ (kept m E (with_value (σ u) j (vbool h))) ∷ Γ u) (runs 𝓣.C 𝓣.Λ E (tested j body)
       (turned u))) (test u)
       (λ _ e. stays z (reads z 𝓛 (‵ (kept m E (with_value (σ u) j (vbool true))) ∷ Γ u) E (with_value (σ u) j (vbool
-      true)) 0 refl (copy (place j [])) (vbool true) (set-read E (σ u) j (vbool true) (holds u))) $
+      true)) 0 refl (copy (place j [])) (vbool true) (set_read E (σ u) j (vbool true) (holds u))) $
       goes_on u e (turned u) (λ u' σ' same lt. use1 𝓛 (‵ (kept m E (cleared k σ'))) (forgets 𝓛 k m E σ') $
       rewrite z 0 (λ (s : Values). ‵ (kept m E s)) same refl $
-      next-turn z μ I u u' lt))
+      next_turn z μ I u u' lt))
       (λ _ e. leaves_loop z (reads z 𝓛 (‵ (kept m E (with_value (σ u) j (vbool false))) ∷ Γ u) E (with_value (σ u) j
-      (vbool false)) 0 refl (copy (place j [])) (vbool false) (set-read E (σ u) j (vbool false) (holds u))) $
+      (vbool false)) 0 refl (copy (place j [])) (vbool false) (set_read E (σ u) j (vbool false) (holds u))) $
       runs-code z 𝓣.C 𝓣.Λ E rest q $ leaves u e) refl) t
 
 is_true : (u : Bool) → T u → u ≡ true

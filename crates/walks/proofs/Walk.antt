@@ -120,9 +120,9 @@ module _ {M : Type 1} {𝓤 : Ura M} {𝓛 : Logic 𝓤} {K : Type 0} {Γ : List
       G
   token t κs qs = step (λ s. nothing t $ move t (1 ∷ 0 ∷ []) $ join t $ use1 𝓛 (raw (toks 𝓛 1 κs qs)) (id⊢ 𝓤 _) $ s)
 
-  pub token-of : K → (κs : Lfts 1) (qs : Shares 1) → Step K 𝓛 (‵ (flft κs.0 qs.0) ∷ Γ) G (raw (toks 𝓛 1 κs qs) ∷
+  pub token_of : K → (κs : Lfts 1) (qs : Shares 1) → Step K 𝓛 (‵ (flft κs.0 qs.0) ∷ Γ) G (raw (toks 𝓛 1 κs qs) ∷
       Γ) G
-  token-of t κs qs = step (λ s. use1 𝓛 (‵ (flft κs.0 qs.0) ⊛ ‵ ftrue) (id⊢ 𝓤 _) $ split t $ move t (1 ∷ []) $
+  token_of t κs qs = step (λ s. use1 𝓛 (‵ (flft κs.0 qs.0) ⊛ ‵ ftrue) (id⊢ 𝓤 _) $ split t $ move t (1 ∷ []) $
       drop t $ s)
 
   pub tokens : K → (κs : Lfts 2) (qs : Shares 2) → Step K 𝓛 (raw (toks 𝓛 2 κs qs) ∷ Γ) G (‵ (flft κs.0 qs.0) ∷ ‵
@@ -130,8 +130,8 @@ module _ {M : Type 1} {𝓤 : Ura M} {𝓛 : Logic 𝓤} {K : Type 0} {Γ : List
   tokens t κs qs = step (λ s. nothing t $ move t (2 ∷ 0 ∷ []) $ join t $ move t (1 ∷ 0 ∷ []) $ join t $
       use1 𝓛 (raw (toks 𝓛 2 κs qs)) (id⊢ 𝓤 _) $ s)
 
-  pub tokens-of : K → (κs : Lfts 2) (qs : Shares 2) → Step K 𝓛 (‵ (flft κs.0 qs.0) ∷ ‵ (flft κs.1.0 qs.1.0) ∷ Γ) G (raw (toks 𝓛 2 κs qs) ∷ Γ) G
-  tokens-of t κs qs = step (λ s. use1 𝓛 (‵ (flft κs.0 qs.0) ⊛ (‵ (flft κs.1.0 qs.1.0) ⊛ ‵ ftrue)) (id⊢ 𝓤
+  pub tokens_of : K → (κs : Lfts 2) (qs : Shares 2) → Step K 𝓛 (‵ (flft κs.0 qs.0) ∷ ‵ (flft κs.1.0 qs.1.0) ∷ Γ) G (raw (toks 𝓛 2 κs qs) ∷ Γ) G
+  tokens_of t κs qs = step (λ s. use1 𝓛 (‵ (flft κs.0 qs.0) ⊛ (‵ (flft κs.1.0 qs.1.0) ⊛ ‵ ftrue)) (id⊢ 𝓤
       _) $ split t $ move t (1 ∷ []) $ split t $ move t (1 ∷ []) $ drop t $ move t (1 ∷ 0 ∷ []) $ s)
 
   -- one lifetime more
@@ -145,6 +145,6 @@ module _ {M : Type 1} {𝓤 : Ura M} {𝓛 : Logic 𝓤} {K : Type 0} {Γ : List
   ties t n κs qs = step (λ s. join t $ use1 𝓛 (raw (toks 𝓛 (suc n) κs qs)) (id⊢ 𝓤 _) $ s)
 
   -- the last values of a list of parameters of which the last one alone has any, after k others
-  pub only-last : K → (k : ℕ) {P : Fml} → Step K 𝓛 (‵ (past k (fsep P ftrue)) ∷ Γ) G (‵ P ∷ Γ) G
-  only-last t zero = step (λ s. nothing t $ move t (1 ∷ 0 ∷ []) $ fjoin t $ s)
-  only-last t (suc k) = step (λ s. only-last t k $ nothing t $ fjoin t $ s)
+  pub only_last : K → (k : ℕ) {P : Fml} → Step K 𝓛 (‵ (past k (fsep P ftrue)) ∷ Γ) G (‵ P ∷ Γ) G
+  only_last t zero = step (λ s. nothing t $ move t (1 ∷ 0 ∷ []) $ fjoin t $ s)
+  only_last t (suc k) = step (λ s. only_last t k $ nothing t $ fjoin t $ s)

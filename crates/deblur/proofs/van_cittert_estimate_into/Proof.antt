@@ -2,10 +2,10 @@
 use mathlib.Core.Path.{◌≡◌}
 use borrow.Author.Rules.{rules}
 use Rattle.image.specs.Call.{gray8}
-use Rattle.deblur.specs.Settings.{restorationOf}
+use Rattle.deblur.specs.Settings.{restoration_of}
 use Rattle.deblur.specs.declared.RestorationAnswer.TheVariants.{Done}
-use Rattle.deblur.proofs.Calls.{estimateCall, Told, refused, accepted, asked, done}
-use Rattle.deblur.proofs.Calls.{restoration-sound, relaxation-small}
+use Rattle.deblur.proofs.Calls.{estimate_call, Told, refused, accepted, asked, done}
+use Rattle.deblur.proofs.Calls.{restoration_sound, relaxation_small}
 use Rattle.deblur.proofs.van_cittert_estimate_into.Statement.{statement}
 use Rattle.deblur.proofs.van_cittert_estimate_into.Tie as tie
 
@@ -23,8 +23,8 @@ answer-along-requires c κs = search rules
 
 told : (c : tie.After-answer-along)
     → let a = c.before.before.before.before.before.args in
-    Told (estimateCall (gray8 a.«data».now a.width a.height a.stride) a.dst.now
-    (restorationOf a.config) a.scratch.now)
+    Told (estimate_call (gray8 a.«data».now a.width a.height a.stride) a.dst.now
+    (restoration_of a.config) a.scratch.now)
     c.answer-along.result
 told c =
     let number = c.before.before in
@@ -51,14 +51,14 @@ is-done c = c.answer.given.1
 line-kernel-requires : tie.Need-line-kernel-requires
 line-kernel-requires c κs =
     let d = c.before in
-    relaxation-small d.before.before.before.before.before.before.before.args.config _ _
+    relaxation_small d.before.before.before.before.before.before.before.args.config _ _
     (accepted (told d.before.before) (is-done d)).settings
 
 estimates-along-requires : tie.Need-estimates-along-requires
 estimates-along-requires c κs =
     let k = c.before.before in
     let d = k.before.before in
-    asked (told d.before.before) (is-done d) (restoration-sound _) k.line-kernel.ensures
+    asked (told d.before.before) (is-done d) (restoration_sound _) k.line-kernel.ensures
 
 same_length : tie.Need-same-length
 same_length c = search rules

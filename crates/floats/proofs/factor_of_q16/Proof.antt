@@ -1,7 +1,7 @@
 -- `floats::factor_of_q16` meets its contract, once the scale as a double is computed.
 use Rattle.std.proofs.Common.{refl, rules}
 use lib.Ieee.{of_bits}
-use Rattle.floats.specs.Factor.{factorOf}
+use Rattle.floats.specs.Factor.{factor_of}
 use Rattle.floats.proofs.factor_of_q16.Statement.{statement}
 use Rattle.floats.proofs.factor_of_q16.Tie as tie
 
@@ -9,7 +9,7 @@ int-to-float-result : tie.Need-int-to-float-result
 int-to-float-result c = search rules
 
 returns : tie.Need-returns
-unfolding factorOf of_bits
+unfolding factor_of of_bits
 returns c = refl
 
 pub factor-of-q16-spec : {M : Type 1} → statement M

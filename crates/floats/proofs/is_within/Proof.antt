@@ -2,8 +2,8 @@
 -- takes.
 use Rattle.std.proofs.Common.{pos, sym, arith, rules}
 use lib.Ieee.{of_bits, of_int, binary64}
-use Rattle.floats.proofs.Values.{ofInt-value}
-use Rattle.floats.proofs.Factor.{test_below, test-within}
+use Rattle.floats.proofs.Values.{of_int_value}
+use Rattle.floats.proofs.Factor.{test_below, test_within}
 use Rattle.floats.proofs.is_within.Statement.{statement}
 use Rattle.floats.proofs.is_within.Tie as tie
 
@@ -19,7 +19,7 @@ unfolding of_bits
 returns-2 c =
     let x = c.before.before.args.factor in
     let l = c.before.before.args.limit in
-    test-within l x (of_int binary64 (pos l)) (ofInt-value l (omega arith)) c.before.if1.false
+    test_within l x (of_int binary64 (pos l)) (of_int_value l (omega arith)) c.before.if1.false
 
 pub is-within-spec : {M : Type 1} → statement M
 is-within-spec = tie.close (tie.spec returns int-to-float-result returns-2)

@@ -3,7 +3,7 @@ use Rattle.std.proofs.Common.{sym, ap, ◌∙◌, arith, rules}
 use denote.Floats.{passes}
 use Rattle.floats.specs.declared.Quantized.TheVariants.{Q16}
 use Rattle.floats.specs.Factor.{within}
-use Rattle.floats.proofs.Factor.{within_more, quantized-taken, quantized-refused}
+use Rattle.floats.proofs.Factor.{within_more, quantized_taken, quantized_refused}
 use Rattle.floats.proofs.quantize.Statement.{statement}
 use Rattle.floats.proofs.quantize.Tie as tie
 
@@ -20,13 +20,13 @@ returns : tie.Need-returns
 returns c =
     let args = c.before.before.before.args in
     ap Q16 c.round-q16.ensures
-    ∙ sym (quantized-taken args.limit args.factor
+    ∙ sym (quantized_taken args.limit args.factor
     (sym c.before.before.is_Within.ensures ∙ c.before.if1.true))
 
 returns-2 : tie.Need-returns-2
 returns-2 c =
     let args = c.before.before.args in
-    sym (quantized-refused args.limit args.factor (sym c.before.is_Within.ensures ∙ c.if1.false))
+    sym (quantized_refused args.limit args.factor (sym c.before.is_Within.ensures ∙ c.if1.false))
 
 pub quantize-spec : {M : Type 1} → statement M
 quantize-spec = tie.close (tie.spec is-within-requires round-q16-requires returns returns-2)

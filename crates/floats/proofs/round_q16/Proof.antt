@@ -4,7 +4,7 @@ use denote.Floats.{passes}
 use lib.Ieee.{of_bits, binary64, fin, fits, mul}
 use lib.Ieee.Positive.{num, den}
 use Rattle.floats.proofs.Values.{Cut}
-use Rattle.floats.proofs.Factor.{halves, halves-le, halves-rounded}
+use Rattle.floats.proofs.Factor.{halves, halves_le, halves_rounded}
 use Rattle.floats.proofs.round_q16.Statement.{statement}
 use Rattle.floats.proofs.round_q16.Tie as tie
 
@@ -23,13 +23,13 @@ unfolding of_bits
 truncating-f64-to-u64-requires c κs = ((product c).over, (product c).under)
 
 add-result : tie.Need-overflow-add-result
-add-result c = omega (arith, counted c, halves-le c.before.args.factor c.before.requires)
+add-result c = omega (arith, counted c, halves_le c.before.args.factor c.before.requires)
 
 cast-result : tie.Need-overflow-cast-result
-cast-result c = omega (arith, counted c, halves-le c.before.args.factor c.before.requires)
+cast-result c = omega (arith, counted c, halves_le c.before.args.factor c.before.requires)
 
 returns : tie.Need-returns
-returns c = ap (λ (w : ℕ). (w + 1) / 2) (counted c) ∙ halves-rounded c.before.args.factor
+returns c = ap (λ (w : ℕ). (w + 1) / 2) (counted c) ∙ halves_rounded c.before.args.factor
 
 pub round-q16-spec : {M : Type 1} → statement M
 round-q16-spec = tie.close (tie.spec truncating-f64-to-u64-requires add-result cast-result returns)

@@ -8,7 +8,7 @@ use mathlib.Core.Path.{◌∙◌, sym}
 use lib.ListN.{length}
 use Rattle.image.specs.Refusal.{Laid}
 use Rattle.image.proofs.Refusal.{laid, row_within}
-use Rattle.image.proofs.Picture.{pixel-outside, pixel-inside}
+use Rattle.image.proofs.Picture.{pixel_outside, pixel_inside}
 use Rattle.image.proofs.pixel_of.Statement.{statement}
 use Rattle.image.proofs.pixel_of.Tie as tie
 
@@ -17,11 +17,11 @@ layout-refusal-requires c κs = search rules
 
 returns : tie.Need-returns
 returns c =
-    sym (pixel-outside _ _ _ _ _ _ (inl (λ z. c.if1.true (c.before.layout-refusal.ensures ∙ z))))
+    sym (pixel_outside _ _ _ _ _ _ (inl (λ z. c.if1.true (c.before.layout-refusal.ensures ∙ z))))
 
 returns-2 : tie.Need-returns-2
 returns-2 c =
-    sym (pixel-outside _ _ _ _ _ _ (inr (⊎_elim (λ w. inl w.taken)
+    sym (pixel_outside _ _ _ _ _ _ (inr (⊎_elim (λ w. inl w.taken)
     (λ w. inr (leb-true _ _ w.1.taken)) c.if2.branch)))
 
 -- The picture is laid, and has row r.
@@ -43,7 +43,7 @@ shared-slice-read-t7 : tie.Need-shared-slice-read-t7
 shared-slice-read-t7 c = omega (arith, row_within (whole c.before) _ (row_below c.before))
 
 returns-3 : tie.Need-returns-3
-returns-3 c = sym (pixel-inside _ _ _ _ (whole c.before) _ _ c.before.before.if2.false (row_below c.before))
+returns-3 c = sym (pixel_inside _ _ _ _ (whole c.before) _ _ c.before.before.if2.false (row_below c.before))
 
 pub pixel-of-spec : {M : Type 1} → statement M
 pixel-of-spec =

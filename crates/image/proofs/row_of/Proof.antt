@@ -9,7 +9,7 @@ use mathlib.Core.Path.{◌∙◌, sym}
 use lib.ListN.{length}
 use Rattle.image.specs.Refusal.{Laid}
 use Rattle.image.proofs.Refusal.{laid, row_within}
-use Rattle.image.proofs.Picture.{row-none, row_is}
+use Rattle.image.proofs.Picture.{row_none, row_is}
 use Rattle.image.proofs.row_of.Statement.{statement}
 use Rattle.image.proofs.row_of.Tie as tie
 
@@ -28,7 +28,7 @@ part-result-end c = search rules
 returns : tie.Need-returns
 returns c =
     sym
-    (row-none _ _ _ _ _
+    (row_none _ _ _ _ _
     (⊎_elim
     (λ w. inl (λ z. w.taken (c.before.before.layout-refusal.ensures ∙ z)))
     (λ w. inr (leb-true _ _ w.1.taken))

@@ -33,9 +33,9 @@ use Rattle.blur.specs.contracts.length.estimate_along as along
 use Rattle.blur.proofs.length.estimate_along.Symbol as along-def
 use Rattle.blur.proofs.length.estimate_along.Met as along-thm
 use Rattle.job.specs.Job.{job_of, layout_of, Restored}
-use Rattle.job.specs.Parts.{JobStarts, lengthIn, Finished}
+use Rattle.job.specs.Parts.{JobStarts, length_in, Finished}
 use Rattle.job.specs.declared.JobAnswer.TheVariants.{Refused}
-use Rattle.job.proofs.Assembly.{job-refused, job-runs, job-outcome}
+use Rattle.job.proofs.Assembly.{job_refused, job_runs, job_outcome}
 use Rattle.job.proofs.Parameters.{config, answer, number, parameters}
 use Rattle.job.specs.contracts.JobConfig as C
 use Rattle.job.proofs.JobConfig.TheLaws as C'
@@ -124,7 +124,7 @@ restore-spec 𝓤 𝓛 𝓜 𝓡 =
     finishes 𝓛 4 parameters answer κs qs a _ Answers Kf same ends r
     (tt ▸ tt ▸ tt ▸ tt ▸ d.0.now ▸ tt ▸ tt ▸ tt ▸ tt ▸ scratch.now ▸ swings.now ▸ tt) is-r
     (subst (λ r. Restored src to d.0.now cfg scratch.now scratch.now swings.now swings.now r) (sym e)
-    (job-refused src to cfg scratch.now swings.now s begun (eqb-false s.refusal 0 (not-true _ some)))) refl))
+    (job_refused src to cfg scratch.now swings.now s begun (eqb-false s.refusal 0 (not-true _ some)))) refl))
     (λ left. let none = eqb-true s.refusal 0 (not-false _ left) in
     let fields = LL.owed T.the_type T'.the_laws s _ is-s in
     let settings = LL.owed C.the_type C'.the_laws cfg _ are-b.0 in
@@ -149,11 +149,11 @@ restore-spec 𝓤 𝓛 𝓜 𝓡 =
     scratch ▸ tt) 𝓣 _ (finish.clauses 𝓛 𝓜.mem 𝓡.run) tt
     (cited 𝓤 𝓛.H _ 𝓜 𝓡 code.env finish-def.name finish-def.routine code.calls-job::finish::finish (finish-thm.met 𝓤 𝓛 𝓜
     𝓡))
-    (are.1.0 ▸ are.1.1.0 ▸ are.1.1.1.0 ▸ are-d.1.0 ▸ are-d.1.1.0 ▸ are-d.1.1.1.0 ▸ are-b.0 ▸ fields.1.0 ▸ is_m ▸ tt) (fact_i 𝓤 _ _ (job-runs src to cfg scratch.now swings.now s begun none)) refl tt refl
-    (λ r ws. Finished s.direction (lengthIn m) src to ws.1.1.1.1.0 cfg scratch.now ws.1.1.1.1.1.1.1.1.1.1.1.0 r) (λ r ws. id⊢ 𝓤 _) (λ r ws finished is-r.
+    (are.1.0 ▸ are.1.1.0 ▸ are.1.1.1.0 ▸ are-d.1.0 ▸ are-d.1.1.0 ▸ are-d.1.1.1.0 ▸ are-b.0 ▸ fields.1.0 ▸ is_m ▸ tt) (fact_i 𝓤 _ _ (job_runs src to cfg scratch.now swings.now s begun none)) refl tt refl
+    (λ r ws. Finished s.direction (length_in m) src to ws.1.1.1.1.0 cfg scratch.now ws.1.1.1.1.1.1.1.1.1.1.1.0 r) (λ r ws. id⊢ 𝓤 _) (λ r ws finished is-r.
     let ds = ws.1.1.1.1.0 in
     let ss = ws.1.1.1.1.1.1.1.1.1.1.1.0 in
     move ! (0 ∷ 1 ∷ 2 ∷ 3 ∷ 6 ∷ 4 ∷ 5 ∷ 7 ∷ []) $
     finishes 𝓛 4 parameters answer κs qs a _ Answers Kf refl ends r
     (tt ▸ tt ▸ tt ▸ tt ▸ ds ▸ tt ▸ tt ▸ tt ▸ tt ▸ ss ▸ ys ▸ tt) is-r
-    (job-outcome src to cfg scratch.now swings.now s begun none ys m measured ds ss r finished) refl)))))
+    (job_outcome src to cfg scratch.now swings.now s begun none ys m measured ds ss r finished) refl)))))

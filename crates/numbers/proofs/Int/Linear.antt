@@ -1,6 +1,6 @@
 -- Linear facts on ℤ by `omega`, through ups and downs: z is `up z` − `dn z`, two naturals of which one is 0. `omega
 -- (arith, linear, up-add x y, ..)` reads and proves `≡`, `≤ℤ`, `<ℤ` and the tests `lt_z`, `le_z` between integers. Each
--- sum or difference in them is one listed equation, `up-add x y`, `up-sub x y` or `up-subℕ a b`; negations and products
+-- sum or difference in them is one listed equation, `up_add x y`, `up_sub x y` or `up_sub_ℕ a b`; negations and products
 -- by a natural are rewritten first, by `simp updown`.
 use mathlib.Core.Path.{◌≡◌, refl, sym, ◌∙◌, ap, ap₂, subst}
 use mathlib.Core.Bool.{Bool, true, false, not}
@@ -21,9 +21,9 @@ abbrev pub dn : ℤ → ℕ
 dn (pos n) = 0
 dn (negsuc n) = suc n
 
-pub up-dn : (z : ℤ) → z ≡ up z ⊖ dn z
-up-dn (pos n) = pos-⊖ n
-up-dn (negsuc n) = negsuc-⊖ n
+pub up_dn : (z : ℤ) → z ≡ up z ⊖ dn z
+up_dn (pos n) = pos-⊖ n
+up_dn (negsuc n) = negsuc-⊖ n
 
 is_true : (t : Bool) → T t → t ≡ true
 is_true true h = refl
@@ -33,19 +33,19 @@ is_false : (t : Bool) → (T t → ⊥) → t ≡ false
 is_false true h = absurd (h tt)
 is_false false h = refl
 
-pub up-or-dn : (z : ℤ) → (up z ≡ 0) ⊎ (dn z ≡ 0)
-up-or-dn (pos n) = inr refl
-up-or-dn (negsuc n) = inl refl
+pub up_or_dn : (z : ℤ) → (up z ≡ 0) ⊎ (dn z ≡ 0)
+up_or_dn (pos n) = inr refl
+up_or_dn (negsuc n) = inl refl
 
-pub natAbs-up-dn : (z : ℤ) → nat_abs z ≡ up z + dn z
-natAbs-up-dn (pos n) = omega arith
-natAbs-up-dn (negsuc n) = omega arith
+pub nat_abs_up_dn : (z : ℤ) → nat_abs z ≡ up z + dn z
+nat_abs_up_dn (pos n) = omega arith
+nat_abs_up_dn (negsuc n) = omega arith
 
 -- ---- sums: one linear equation for each
 
-pub up-add : (a b : ℤ) → up (a +ℤ b) + (dn a + dn b) ≡ dn (a +ℤ b) + (up a + up b)
-up-add a b = turn (⊖-same⁻¹ _ _ _ _
-    (sym (up-dn (a +ℤ b)) ∙ ap₂ ◌+ℤ◌ (up-dn a) (up-dn b) ∙ ⊖-add (up a) (dn a) (up b) (dn b)))
+pub up_add : (a b : ℤ) → up (a +ℤ b) + (dn a + dn b) ≡ dn (a +ℤ b) + (up a + up b)
+up_add a b = turn (⊖-same⁻¹ _ _ _ _
+    (sym (up_dn (a +ℤ b)) ∙ ap₂ ◌+ℤ◌ (up_dn a) (up_dn b) ∙ ⊖-add (up a) (dn a) (up b) (dn b)))
   where
     turn : up (a +ℤ b) + (dn a + dn b) ≡ (up a + up b) + dn (a +ℤ b)
         → up (a +ℤ b) + (dn a + dn b) ≡ dn (a +ℤ b) + (up a + up b)
@@ -58,36 +58,36 @@ up_neg (pos zero) = refl
 up_neg (pos (suc n)) = refl
 up_neg (negsuc n) = refl
 
-pub dn-neg : (z : ℤ) → dn (neg_ℤ z) ≡ up z
-dn-neg (pos zero) = refl
-dn-neg (pos (suc n)) = refl
-dn-neg (negsuc n) = refl
+pub dn_neg : (z : ℤ) → dn (neg_ℤ z) ≡ up z
+dn_neg (pos zero) = refl
+dn_neg (pos (suc n)) = refl
+dn_neg (negsuc n) = refl
 
-pub up-mul : (m : ℕ) (z : ℤ) → up (pos m *ℤ z) ≡ m * up z
-up-mul m (pos n) = refl
-up-mul m (negsuc n) = up_neg (pos (m * suc n)) ∙ sym (mul-zero m)
+pub up_mul : (m : ℕ) (z : ℤ) → up (pos m *ℤ z) ≡ m * up z
+up_mul m (pos n) = refl
+up_mul m (negsuc n) = up_neg (pos (m * suc n)) ∙ sym (mul-zero m)
 
-pub dn-mul : (m : ℕ) (z : ℤ) → dn (pos m *ℤ z) ≡ m * dn z
-dn-mul m (pos n) = sym (mul-zero m)
-dn-mul m (negsuc n) = dn-neg (pos (m * suc n))
+pub dn_mul : (m : ℕ) (z : ℤ) → dn (pos m *ℤ z) ≡ m * dn z
+dn_mul m (pos n) = sym (mul-zero m)
+dn_mul m (negsuc n) = dn_neg (pos (m * suc n))
 
-pub up-quot : (z : ℤ) (d : ℕ) → up (quot_z z (pos d)) ≡ up z / d
-up-quot (pos n) d = refl
-up-quot (negsuc n) d = up_neg (pos (suc n / d)) ∙ sym (zero-div d)
+pub up_quot : (z : ℤ) (d : ℕ) → up (quot_z z (pos d)) ≡ up z / d
+up_quot (pos n) d = refl
+up_quot (negsuc n) d = up_neg (pos (suc n / d)) ∙ sym (zero-div d)
 
-pub dn-quot : (z : ℤ) (d : ℕ) → dn (quot_z z (pos d)) ≡ dn z / d
-dn-quot (pos n) d = sym (zero-div d)
-dn-quot (negsuc n) d = dn-neg (pos (suc n / d))
+pub dn_quot : (z : ℤ) (d : ℕ) → dn (quot_z z (pos d)) ≡ dn z / d
+dn_quot (pos n) d = sym (zero-div d)
+dn_quot (negsuc n) d = dn_neg (pos (suc n / d))
 
-pub ruleset updown = (up_neg, dn-neg, up-mul, dn-mul, up-quot, dn-quot, natAbs-up-dn)
+pub ruleset updown = (up_neg, dn_neg, up_mul, dn_mul, up_quot, dn_quot, nat_abs_up_dn)
 
 -- a difference
-pub up-sub : (a b : ℤ) → up (a -ℤ b) + (dn a + up b) ≡ dn (a -ℤ b) + (up a + dn b)
-up-sub a b = simp updown at (up-add a (neg_ℤ b))
+pub up_sub : (a b : ℤ) → up (a -ℤ b) + (dn a + up b) ≡ dn (a -ℤ b) + (up a + dn b)
+up_sub a b = simp updown at (up_add a (neg_ℤ b))
 
 -- a difference of naturals
-pub up-subℕ : (a b : ℕ) → up (sub_ℕ a b) + b ≡ dn (sub_ℕ a b) + a
-up-subℕ a b = turn (⊖-same⁻¹ _ _ _ _ (sym (up-dn (sub_ℕ a b)) ∙ sym (⊖-sub a b)))
+pub up_sub_ℕ : (a b : ℕ) → up (sub_ℕ a b) + b ≡ dn (sub_ℕ a b) + a
+up_sub_ℕ a b = turn (⊖-same⁻¹ _ _ _ _ (sym (up_dn (sub_ℕ a b)) ∙ sym (⊖-sub a b)))
   where
     turn : up (sub_ℕ a b) + b ≡ a + dn (sub_ℕ a b) → up (sub_ℕ a b) + b ≡ dn (sub_ℕ a b) + a
     turn e = omega arith
@@ -97,8 +97,8 @@ up-subℕ a b = turn (⊖-same⁻¹ _ _ _ _ (sym (up-dn (sub_ℕ a b)) ∙ sym (
 pub up-≡ : {a b : ℤ} → a ≡ b → up a + dn b ≡ up b + dn a
 up-≡ e = ap₂ ◌+◌ (ap up e) (sym (ap dn e))
 
-pub ≡-by-up : (a b : ℤ) → up a + dn b ≡ up b + dn a → a ≡ b
-≡-by-up a b e = up-dn a ∙ ⊖-same (up a) (dn a) (up b) (dn b) e ∙ sym (up-dn b)
+pub ≡-by_up : (a b : ℤ) → up a + dn b ≡ up b + dn a → a ≡ b
+≡-by_up a b e = up_dn a ∙ ⊖-same (up a) (dn a) (up b) (dn b) e ∙ sym (up_dn b)
 
 le_up : (a b : ℤ) → T (le_z a b) → up a + dn b ≤ up b + dn a
 le_up (pos a) (pos b) t = omega (arith, leb→le a b t)
@@ -106,11 +106,11 @@ le_up (pos a) (negsuc b) t = absurd t
 le_up (negsuc a) (pos b) t = omega arith
 le_up (negsuc a) (negsuc b) t = omega (arith, leb→le b a t)
 
-le-by : (a b : ℤ) → up a + dn b ≤ up b + dn a → T (le_z a b)
-le-by (pos a) (pos b) h = le→leb a b (omega arith)
-le-by (pos a) (negsuc b) h = absurd (omega arith)
-le-by (negsuc a) (pos b) h = tt
-le-by (negsuc a) (negsuc b) h = le→leb b a (omega arith)
+le_by : (a b : ℤ) → up a + dn b ≤ up b + dn a → T (le_z a b)
+le_by (pos a) (pos b) h = le→leb a b (omega arith)
+le_by (pos a) (negsuc b) h = absurd (omega arith)
+le_by (negsuc a) (pos b) h = tt
+le_by (negsuc a) (negsuc b) h = le→leb b a (omega arith)
 
 lt_up : (a b : ℤ) → T (lt_z a b) → up a + dn b < up b + dn a
 lt_up (pos a) (pos b) t = omega (arith, ltb→lt a b t)
@@ -127,46 +127,46 @@ lt_by (negsuc a) (negsuc b) h = lt→ltb b a (omega arith)
 pub up-≤ℤ : {a b : ℤ} → a ≤ℤ b → up a + dn b ≤ up b + dn a
 up-≤ℤ {a} {b} h = le_up a b h.le
 
-pub ≤ℤ-by-up : (a b : ℤ) → up a + dn b ≤ up b + dn a → a ≤ℤ b
-≤ℤ-by-up a b h = record { le = le-by a b h }
+pub ≤ℤ-by_up : (a b : ℤ) → up a + dn b ≤ up b + dn a → a ≤ℤ b
+≤ℤ-by_up a b h = record { le = le_by a b h }
 
 pub up-<ℤ : {a b : ℤ} → a <ℤ b → up a + dn b < up b + dn a
 up-<ℤ {a} {b} h = lt_up a b h.lt
 
-pub <ℤ-by-up : (a b : ℤ) → up a + dn b < up b + dn a → a <ℤ b
-<ℤ-by-up a b h = record { lt = lt_by a b h }
+pub <ℤ-by_up : (a b : ℤ) → up a + dn b < up b + dn a → a <ℤ b
+<ℤ-by_up a b h = record { lt = lt_by a b h }
 
 -- the tests, as a branch leaves them
-pub ltZ-true : (a b : ℤ) → lt_z a b ≡ true → up a + dn b < up b + dn a
-ltZ-true a b e = lt_up a b (subst T (sym e) tt)
+pub lt_z_true : (a b : ℤ) → lt_z a b ≡ true → up a + dn b < up b + dn a
+lt_z_true a b e = lt_up a b (subst T (sym e) tt)
 
-pub ltZ-false : (a b : ℤ) → lt_z a b ≡ false → up b + dn a ≤ up a + dn b
-ltZ-false a b e = up-≤ℤ {a = b} {b = a} (lt_z_no {a = a} {b = b} (subst (λ (t : Bool). T (not t)) (sym e) tt))
+pub lt_z_false : (a b : ℤ) → lt_z a b ≡ false → up b + dn a ≤ up a + dn b
+lt_z_false a b e = up-≤ℤ {a = b} {b = a} (lt_z_no {a = a} {b = b} (subst (λ (t : Bool). T (not t)) (sym e) tt))
 
-pub leZ-true : (a b : ℤ) → le_z a b ≡ true → up a + dn b ≤ up b + dn a
-leZ-true a b e = le_up a b (subst T (sym e) tt)
+pub le_z_true : (a b : ℤ) → le_z a b ≡ true → up a + dn b ≤ up b + dn a
+le_z_true a b e = le_up a b (subst T (sym e) tt)
 
-pub leZ-false : (a b : ℤ) → le_z a b ≡ false → up b + dn a < up a + dn b
-leZ-false a b e = not-le (λ h. subst T e (le-by a b h))
+pub le_z_false : (a b : ℤ) → le_z a b ≡ false → up b + dn a < up a + dn b
+le_z_false a b e = not-le (λ h. subst T e (le_by a b h))
   where
     not-le : ¬ (up a + dn b ≤ up b + dn a) → up b + dn a < up a + dn b
     not-le h = omega arith
 
 -- and back
-pub ltZ-is-true : (a b : ℤ) → up a + dn b < up b + dn a → lt_z a b ≡ true
-ltZ-is-true a b h = is_true (lt_z a b) (lt_by a b h)
+pub lt_z_is_true : (a b : ℤ) → up a + dn b < up b + dn a → lt_z a b ≡ true
+lt_z_is_true a b h = is_true (lt_z a b) (lt_by a b h)
 
-pub ltZ-is-false : (a b : ℤ) → up b + dn a ≤ up a + dn b → lt_z a b ≡ false
-ltZ-is-false a b h = is_false (lt_z a b) (λ t. clash (lt_up a b t))
+pub lt_z_is_false : (a b : ℤ) → up b + dn a ≤ up a + dn b → lt_z a b ≡ false
+lt_z_is_false a b h = is_false (lt_z a b) (λ t. clash (lt_up a b t))
   where
     clash : up a + dn b < up b + dn a → ⊥
     clash k = omega arith
 
-pub leZ-is-true : (a b : ℤ) → up a + dn b ≤ up b + dn a → le_z a b ≡ true
-leZ-is-true a b h = is_true (le_z a b) (le-by a b h)
+pub le_z_is_true : (a b : ℤ) → up a + dn b ≤ up b + dn a → le_z a b ≡ true
+le_z_is_true a b h = is_true (le_z a b) (le_by a b h)
 
-pub leZ-is-false : (a b : ℤ) → up b + dn a < up a + dn b → le_z a b ≡ false
-leZ-is-false a b h = is_false (le_z a b) (λ t. clash (le_up a b t))
+pub le_z_is_false : (a b : ℤ) → up b + dn a < up a + dn b → le_z a b ≡ false
+le_z_is_false a b h = is_false (le_z a b) (λ t. clash (le_up a b t))
   where
     clash : up a + dn b ≤ up b + dn a → ⊥
     clash k = omega arith
@@ -174,17 +174,17 @@ leZ-is-false a b h = is_false (le_z a b) (λ t. clash (le_up a b t))
 -- what `omega` is handed beside `arith`
 pub ruleset linear = (
   up-≡,
-  ≡-by-up,
+  ≡-by_up,
   up-≤ℤ,
-  ≤ℤ-by-up,
+  ≤ℤ-by_up,
   up-<ℤ,
-  <ℤ-by-up,
-  ltZ-true,
-  ltZ-false,
-  leZ-true,
-  leZ-false,
-  ltZ-is-true,
-  ltZ-is-false,
-  leZ-is-true,
-  leZ-is-false,
+  <ℤ-by_up,
+  lt_z_true,
+  lt_z_false,
+  le_z_true,
+  le_z_false,
+  lt_z_is_true,
+  lt_z_is_false,
+  le_z_is_true,
+  le_z_is_false,
 )

@@ -6,7 +6,7 @@ use native.Mathlib.Nat.{lt_of_mul-lt-mul_left}
 use native.Mathlib.Omega.{arith}
 use lib.IntN.{ℤ, pos, neg_ℤ, ◌+ℤ◌, ◌*ℤ◌}
 use lib.Signed.{◌≤ℤ◌, ◌<ℤ◌}
-use Rattle.numbers.proofs.Int.Linear.{up, dn, linear, updown, up-add, up-<ℤ, ≤ℤ-by-up, <ℤ-by-up}
+use Rattle.numbers.proofs.Int.Linear.{up, dn, linear, updown, up_add, up-<ℤ, ≤ℤ-by_up, <ℤ-by_up}
 
 pub ≤ℤ-trans : {a b c : ℤ} → a ≤ℤ b → b ≤ℤ c → a ≤ℤ c
 ≤ℤ-trans h k = omega (arith, linear)
@@ -34,24 +34,24 @@ pos-<ℤ⁻¹ h = omega (arith, linear)
 -- ---- one more
 
 pub ≤ℤ-of-<ℤ-suc : (a b : ℤ) → a <ℤ (b +ℤ pos 1) → a ≤ℤ b
-≤ℤ-of-<ℤ-suc a b h = omega (arith, linear, up-add b (pos 1))
+≤ℤ-of-<ℤ-suc a b h = omega (arith, linear, up_add b (pos 1))
 
 pub suc-≤ℤ : {a b : ℤ} → a <ℤ b → (a +ℤ pos 1) ≤ℤ b
-suc-≤ℤ {a} h = omega (arith, linear, up-add a (pos 1))
+suc-≤ℤ {a} h = omega (arith, linear, up_add a (pos 1))
 
 -- ---- sums, negations, products by a natural
 
 pub +ℤ-mono : {a b c d : ℤ} → a ≤ℤ b → c ≤ℤ d → (a +ℤ c) ≤ℤ (b +ℤ d)
-+ℤ-mono {a} {b} {c} {d} h k = omega (arith, linear, up-add a c, up-add b d)
++ℤ-mono {a} {b} {c} {d} h k = omega (arith, linear, up_add a c, up_add b d)
 
 pub +ℤ-mono-< : {a b c d : ℤ} → a <ℤ b → c ≤ℤ d → (a +ℤ c) <ℤ (b +ℤ d)
-+ℤ-mono-< {a} {b} {c} {d} h k = omega (arith, linear, up-add a c, up-add b d)
++ℤ-mono-< {a} {b} {c} {d} h k = omega (arith, linear, up_add a c, up_add b d)
 
 pub negℤ-mono : {a b : ℤ} → a ≤ℤ b → neg_ℤ b ≤ℤ neg_ℤ a
-negℤ-mono {a} {b} h = ≤ℤ-by-up (neg_ℤ b) (neg_ℤ a) (simp updown (omega (arith, linear)))
+negℤ-mono {a} {b} h = ≤ℤ-by_up (neg_ℤ b) (neg_ℤ a) (simp updown (omega (arith, linear)))
 
 pub *ℤ-<-cancel : (m : ℕ) (a b : ℤ) → (pos m *ℤ a) <ℤ (pos m *ℤ b) → a <ℤ b
-*ℤ-<-cancel m a b h = <ℤ-by-up a b (lt_of_mul-lt-mul_left m (part (simp updown at (up-<ℤ h))))
+*ℤ-<-cancel m a b h = <ℤ-by_up a b (lt_of_mul-lt-mul_left m (part (simp updown at (up-<ℤ h))))
   where
     part : m * up a + m * dn b < m * up b + m * dn a → m * (up a + dn b) < m * (up b + dn a)
     part k = omega arith

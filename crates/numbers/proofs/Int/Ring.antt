@@ -1,4 +1,4 @@
--- Ring equations on ℤ. `a ⊖ b` is a − b for two naturals; every integer is one (`z-ind`), and sums, negations and
+-- Ring equations on ℤ. `a ⊖ b` is a − b for two naturals; every integer is one (`z_ind`), and sums, negations and
 -- products of them are again such (`zring`). So an equation is proved in one line: `z-ind _ λ a a'. z-ind _ λ b b'.
 -- simp zring (omega (arith, ⊖-same))`. Then the laws that are cited by name.
 use mathlib.Core.Path.{◌≡◌, refl, sym, ◌∙◌, ap, ap₂, subst}
@@ -19,12 +19,12 @@ pub ⊖-sub : (a b : ℕ) → a ⊖ b ≡ sub_ℕ a b
 unfolding ◌⊖◌
 ⊖-sub a b = refl
 
-pub subℕ-is : (a b : ℕ) → sub_ℕ a b ≡ pos a -ℤ pos b
-subℕ-is a zero = rw (le-ltb a zero zero-le) (ap pos (omega arith))
-subℕ-is a (suc b) = refl
+pub sub_ℕ-is : (a b : ℕ) → sub_ℕ a b ≡ pos a -ℤ pos b
+sub_ℕ-is a zero = rw (le-ltb a zero zero-le) (ap pos (omega arith))
+sub_ℕ-is a (suc b) = refl
 
 pub ⊖-is : (a b : ℕ) → a ⊖ b ≡ pos a -ℤ pos b
-⊖-is a b = ⊖-sub a b ∙ subℕ-is a b
+⊖-is a b = ⊖-sub a b ∙ sub_ℕ-is a b
 
 pub pos-⊖ : (n : ℕ) → pos n ≡ n ⊖ 0
 pos-⊖ n = sym (⊖-is n 0 ∙ +ℤ_idr (pos n))
@@ -33,9 +33,9 @@ pub negsuc-⊖ : (n : ℕ) → negsuc n ≡ 0 ⊖ suc n
 negsuc-⊖ n = sym (⊖-is 0 (suc n) ∙ +ℤ_idl (negsuc n))
 
 -- every integer is some a ⊖ b
-pub z-ind {ℓ} : (P : ℤ → Type ℓ) → ((a b : ℕ) → P (a ⊖ b)) → (z : ℤ) → P z
-z-ind P f (pos n) = subst P (sym (pos-⊖ n)) (f n 0)
-z-ind P f (negsuc n) = subst P (sym (negsuc-⊖ n)) (f 0 (suc n))
+pub z_ind {ℓ} : (P : ℤ → Type ℓ) → ((a b : ℕ) → P (a ⊖ b)) → (z : ℤ) → P z
+z_ind P f (pos n) = subst P (sym (pos-⊖ n)) (f n 0)
+z_ind P f (negsuc n) = subst P (sym (negsuc-⊖ n)) (f 0 (suc n))
 
 -- ---- its sum, negation and product
 
@@ -59,8 +59,8 @@ pub ⊖-neg : (a b : ℕ) → neg_ℤ (a ⊖ b) ≡ b ⊖ a
     ∙ sym (⊖-is b a)
 
 -- the product, by distributivity over a sum, which is by induction on the first summand
-suc-step : (a b c : ℤ) → (a +ℤ b) *ℤ c ≡ a *ℤ c +ℤ b *ℤ c → (suc_ℤ a +ℤ b) *ℤ c ≡ suc_ℤ a *ℤ c +ℤ b *ℤ c
-suc-step a b c h =
+suc_step : (a b c : ℤ) → (a +ℤ b) *ℤ c ≡ a *ℤ c +ℤ b *ℤ c → (suc_ℤ a +ℤ b) *ℤ c ≡ suc_ℤ a *ℤ c +ℤ b *ℤ c
+suc_step a b c h =
     ap (◌*ℤ c) (suc_ℤ-+ℤ a b)
     ∙ suc_ℤ-*ℤ (a +ℤ b) c
     ∙ ap (◌+ℤ c) h
@@ -69,8 +69,8 @@ suc-step a b c h =
     ∙ sym (+ℤ_assoc (a *ℤ c) c (b *ℤ c))
     ∙ ap (◌+ℤ b *ℤ c) (sym (suc_ℤ-*ℤ a c))
 
-pred-step : (a b c : ℤ) → (a +ℤ b) *ℤ c ≡ a *ℤ c +ℤ b *ℤ c → (pred_ℤ a +ℤ b) *ℤ c ≡ pred_ℤ a *ℤ c +ℤ b *ℤ c
-pred-step a b c h =
+pred_step : (a b c : ℤ) → (a +ℤ b) *ℤ c ≡ a *ℤ c +ℤ b *ℤ c → (pred_ℤ a +ℤ b) *ℤ c ≡ pred_ℤ a *ℤ c +ℤ b *ℤ c
+pred_step a b c h =
     ap (◌*ℤ c) (pred_ℤ-+ℤ a b)
     ∙ pred_ℤ-*ℤ (a +ℤ b) c
     ∙ ap (◌-ℤ c) h
@@ -83,9 +83,9 @@ pub add-*ℤ : (a b c : ℤ) → (a +ℤ b) *ℤ c ≡ a *ℤ c +ℤ b *ℤ c
 add-*ℤ a b c =
     ℤ_ind (λ (z : ℤ). (z +ℤ b) *ℤ c ≡ z *ℤ c +ℤ b *ℤ c)
     (ap (◌*ℤ c) (+ℤ_idl b) ∙ sym (ap (◌+ℤ b *ℤ c) (zero-*ℤ c) ∙ +ℤ_idl (b *ℤ c)))
-    (λ n h. subst (λ (z : ℤ). (z +ℤ b) *ℤ c ≡ z *ℤ c +ℤ b *ℤ c) (sym (+ℤ_one (pos n))) (suc-step (pos n) b c h))
+    (λ n h. subst (λ (z : ℤ). (z +ℤ b) *ℤ c ≡ z *ℤ c +ℤ b *ℤ c) (sym (+ℤ_one (pos n))) (suc_step (pos n) b c h))
     (λ n h. subst (λ (z : ℤ). (z +ℤ b) *ℤ c ≡ z *ℤ c +ℤ b *ℤ c) (sym (-ℤ_one (neg_ℤ (pos n))))
-    (pred-step (neg_ℤ (pos n)) b c h))
+    (pred_step (neg_ℤ (pos n)) b c h))
     a
 
 pub *ℤ-add : (a b c : ℤ) → a *ℤ (b +ℤ c) ≡ a *ℤ b +ℤ a *ℤ c
@@ -141,31 +141,31 @@ pub ruleset zring = (pos-⊖, negsuc-⊖, ⊖-add, ⊖-neg, ⊖-mul)
 
 -- ---- sub_ℕ, by which places are written
 
-pub subℕ-add : (a b c : ℕ) → sub_ℕ a b +ℤ pos c ≡ sub_ℕ (a + c) b
-subℕ-add a b c =
+pub sub_ℕ-add : (a b c : ℕ) → sub_ℕ a b +ℤ pos c ≡ sub_ℕ (a + c) b
+sub_ℕ-add a b c =
     ap₂ ◌+ℤ◌ (sym (⊖-sub a b)) (pos-⊖ c)
     ∙ ⊖-add a b c 0
     ∙ ⊖-same (a + c) (b + 0) (a + c) b (omega arith)
     ∙ ⊖-sub (a + c) b
 
 -- at or above zero, and below it
-pub subℕ-pos : {a b : ℕ} → b ≤ a → sub_ℕ a b ≡ pos (a - b)
-subℕ-pos {a} {b} h = rw (le-ltb a b h)
+pub sub_ℕ-pos : {a b : ℕ} → b ≤ a → sub_ℕ a b ≡ pos (a - b)
+sub_ℕ-pos {a} {b} h = rw (le-ltb a b h)
 
-pub subℕ-neg : {a b : ℕ} → a < b → sub_ℕ a b ≡ negsuc (b - suc a)
-subℕ-neg {a} {b} h = rw (lt-ltb a b h)
+pub sub_ℕ-neg : {a b : ℕ} → a < b → sub_ℕ a b ≡ negsuc (b - suc a)
+sub_ℕ-neg {a} {b} h = rw (lt-ltb a b h)
 
 -- ---- products
 
 pub *ℤ-sub : (a b c : ℤ) → a *ℤ (b -ℤ c) ≡ a *ℤ b -ℤ a *ℤ c
-*ℤ-sub = z-ind _ λ a a'. z-ind _ λ b b'. z-ind _ λ c c'. simp zring (omega (arith, ⊖-same))
+*ℤ-sub = z_ind _ λ a a'. z_ind _ λ b b'. z_ind _ λ c c'. simp zring (omega (arith, ⊖-same))
 
 pub one-*ℤ : (z : ℤ) → pos 1 *ℤ z ≡ z
-one-*ℤ = z-ind _ λ a a'. simp zring (omega (arith, ⊖-same))
+one-*ℤ = z_ind _ λ a a'. simp zring (omega (arith, ⊖-same))
 
 -- a product by a natural, in the laws that sums by steps use
 pub suc-*ℤ : (n : ℕ) (z : ℤ) → pos (suc n) *ℤ z ≡ pos n *ℤ z +ℤ z
-suc-*ℤ n = z-ind _ λ a a'. simp zring (omega (arith, ⊖-same))
+suc-*ℤ n = z_ind _ λ a a'. simp zring (omega (arith, ⊖-same))
 
 -- ---- sums and differences
 
@@ -173,11 +173,11 @@ pub -ℤ-self : (z : ℤ) → z -ℤ z ≡ pos 0
 -ℤ-self = +ℤ_invr
 
 pub add_sub_cancel_left : (a b : ℤ) → a +ℤ b -ℤ a ≡ b
-add_sub_cancel_left = z-ind _ λ a a'. z-ind _ λ b b'. simp zring (omega (arith, ⊖-same))
+add_sub_cancel_left = z_ind _ λ a a'. z_ind _ λ b b'. simp zring (omega (arith, ⊖-same))
 
 pub add_sub_assoc : (a b c : ℤ) → a +ℤ b -ℤ c ≡ a +ℤ (b -ℤ c)
 add_sub_assoc a b c = +ℤ_assoc a b (neg_ℤ c)
 
 -- a sum moved to the other side
-pub sub-of-add : (a b : ℤ) {c : ℤ} → a +ℤ b ≡ c → a ≡ c -ℤ b
-sub-of-add a b e = sym (+ℤ-neg_ℤ_cancel a b) ∙ ap (◌-ℤ b) e
+pub sub_of_add : (a b : ℤ) {c : ℤ} → a +ℤ b ≡ c → a ≡ c -ℤ b
+sub_of_add a b e = sym (+ℤ-neg_ℤ_cancel a b) ∙ ap (◌-ℤ b) e

@@ -7,34 +7,34 @@ use mir.Syntax.{w64}
 use mir.Facts.{to_z-of_z}
 use Rattle.numbers.proofs.abs_i64.Statement.{statement}
 use Rattle.numbers.proofs.abs_i64.Tie as tie
-use Rattle.numbers.proofs.Int.Size.{size-sfits}
-use Rattle.numbers.proofs.Int.Machine.{read-lt, read-nlt, cast_unsigned}
-use Rattle.numbers.proofs.Scalar.{abs-up-fits, abs-turn-fits, abs-turn, abs-turn-≥, abs-turn-≤, abs-size}
+use Rattle.numbers.proofs.Int.Size.{size_sfits}
+use Rattle.numbers.proofs.Int.Machine.{read_lt, read_nlt, cast_unsigned}
+use Rattle.numbers.proofs.Scalar.{abs_up_fits, abs_turn_fits, abs_turn, abs_turn-≥, abs_turn-≤, abs_size}
 
 negative : (c : tie.Then1) → c.before.args.v <ℤ pos 0
-negative c = read-lt (to_z-of_z c.before.ranges.v) refl c.if1.true
+negative c = read_lt (to_z-of_z c.before.ranges.v) refl c.if1.true
 
 add-result : tie.Need-overflow-add-result
-add-result c = abs-up-fits c.before.ranges.v (negative c)
+add-result c = abs_up_fits c.before.ranges.v (negative c)
 
 sub-result : tie.Need-overflow-sub-result
-sub-result c = abs-turn-fits c.before.ranges.v (negative c)
+sub-result c = abs_turn_fits c.before.ranges.v (negative c)
 
 cast-result : tie.Need-overflow-cast-result
 cast-result c =
-    cast_unsigned w64 (abs-turn c.before.ranges.v (negative c)) (abs-turn-≥ c.before.ranges.v (negative c))
-    (omega (arith, abs-turn-≤ c.before.ranges.v (negative c)))
+    cast_unsigned w64 (abs_turn c.before.ranges.v (negative c)) (abs_turn-≥ c.before.ranges.v (negative c))
+    (omega (arith, abs_turn-≤ c.before.ranges.v (negative c)))
 
 add-result-2 : tie.Need-overflow-add-result-2
-add-result-2 c = omega (arith, abs-size c.before.ranges.v (negative c), size-sfits c.before.ranges.v)
+add-result-2 c = omega (arith, abs_size c.before.ranges.v (negative c), size_sfits c.before.ranges.v)
 
 returns : tie.Need-returns
-returns c = abs-size c.before.ranges.v (negative c)
+returns c = abs_size c.before.ranges.v (negative c)
 
 cast-result-2 : tie.Need-overflow-cast-result-2
 cast-result-2 c =
-    cast_unsigned w64 (to_z-of_z c.before.ranges.v) (read-nlt (to_z-of_z c.before.ranges.v) refl c.if1.false)
-    (omega (arith, size-sfits c.before.ranges.v))
+    cast_unsigned w64 (to_z-of_z c.before.ranges.v) (read_nlt (to_z-of_z c.before.ranges.v) refl c.if1.false)
+    (omega (arith, size_sfits c.before.ranges.v))
 
 returns-2 : tie.Need-returns-2
 returns-2 c = ap nat_abs (to_z-of_z c.before.ranges.v)

@@ -2,10 +2,10 @@
 use mir.Facts.{to_z-of_z, sfits_widen}
 use Rattle.numbers.proofs.widen_i32.Statement.{statement}
 use Rattle.numbers.proofs.widen_i32.Tie as tie
-use Rattle.numbers.proofs.Int.Machine.{fits-as, held}
+use Rattle.numbers.proofs.Int.Machine.{fits_as, held}
 
 cast-result : tie.Need-overflow-cast-result
-cast-result c = fits-as (to_z-of_z c.ranges.v) (sfits_widen tt c.ranges.v)
+cast-result c = fits_as (to_z-of_z c.ranges.v) (sfits_widen tt c.ranges.v)
 
 returns : tie.Need-returns
 returns c = held (to_z-of_z c.ranges.v) (sfits_widen tt c.ranges.v)

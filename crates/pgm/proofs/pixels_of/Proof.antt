@@ -1,7 +1,7 @@
 -- `pgm::pixels_of` meets its contract.
 use borrow.Author.Rules.{rules}
 use native.Mathlib.Omega.{arith}
-use Rattle.pgm.proofs.Headers.{part-within, part-given, part_none}
+use Rattle.pgm.proofs.Headers.{part_within, part_given, part_none}
 use Rattle.pgm.proofs.pixels_of.Statement.{statement}
 use Rattle.pgm.proofs.pixels_of.Tie as tie
 
@@ -12,7 +12,7 @@ enum-known-picture : tie.Need-enum-known-picture
 enum-known-picture c = search rules
 
 sub-result : tie.Need-overflow-sub-result
-sub-result c = part-within _ c.before.before.before.read.ensures c.before.picture.given.1
+sub-result c = part_within _ c.before.before.before.read.ensures c.before.picture.given.1
 
 part-result-start : tie.Need-slice-bounds-result-start
 part-result-start c = omega (arith, sub-result c)
@@ -33,7 +33,7 @@ part-result-end-2 : tie.Need-slice-bounds-result-end-2
 part-result-end-2 c = search rules
 
 returns : tie.Need-returns
-returns c = part-given _ c.before.before.before.before.read.ensures c.before.before.picture.given.1
+returns c = part_given _ c.before.before.before.before.read.ensures c.before.before.picture.given.1
 
 returns-2 : tie.Need-returns-2
 returns-2 c = part_none _ c.before.before.before.read.ensures c.before.enum_told.given.1

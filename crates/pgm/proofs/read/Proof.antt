@@ -1,7 +1,7 @@
 -- `pgm::read` meets its contract.
 use borrow.Author.Rules.{rules}
 use mathlib.Core.Path.{◌∙◌}
-use Rattle.pgm.proofs.Headers.{start-within, answer-given, answer-broken}
+use Rattle.pgm.proofs.Headers.{start_within, answer_given, answer_broken}
 use Rattle.pgm.proofs.read.Statement.{statement}
 use Rattle.pgm.proofs.read.Tie as tie
 
@@ -13,7 +13,7 @@ enum-known-header c = search rules
 
 picture-of-requires : tie.Need-picture-of-requires
 picture-of-requires c κs =
-    start-within _ c.before.before.before.read-header.ensures c.before.header.given.1
+    start_within _ c.before.before.before.read-header.ensures c.before.header.given.1
 
 enum_told : tie.Need-enum-told
 enum_told c = search rules
@@ -21,10 +21,10 @@ enum_told c = search rules
 returns : tie.Need-returns
 returns c =
     c.picture-of.ensures
-    ∙ answer-given _ c.before.before.before.before.read-header.ensures c.before.before.header.given.1
+    ∙ answer_given _ c.before.before.before.before.read-header.ensures c.before.before.header.given.1
 
 returns-2 : tie.Need-returns-2
-returns-2 c = answer-broken _ c.before.before.read-header.ensures c.enum_told.given.1
+returns-2 c = answer_broken _ c.before.before.read-header.ensures c.enum_told.given.1
 
 pub read_spec : {M : Type 1} → statement M
 read_spec =

@@ -5,10 +5,10 @@ use mathlib.Core.Path.{◌≡◌, refl, sym, ◌∙◌}
 use native.Mathlib.Omega.{arith}
 use lib.ListN.{length}
 use Rattle.image.specs.Call.{Gray8, gray8}
-use Rattle.image.specs.Refusal.{layoutRefusal, Laid}
-use Rattle.image.proofs.Refusal.{laid, area-most}
-use Rattle.pgm.proofs.Digits.{count_most, length-header}
-use Rattle.pgm.proofs.Writing.{write-refused, write-short, write-whole, part_room}
+use Rattle.image.specs.Refusal.{layout_refusal, Laid}
+use Rattle.image.proofs.Refusal.{laid, area_most}
+use Rattle.pgm.proofs.Digits.{count_most, length_header}
+use Rattle.pgm.proofs.Writing.{write_refused, write_short, write_whole, part_room}
 use Rattle.pgm.proofs.write.Statement.{statement}
 use Rattle.pgm.proofs.write.Tie as tie
 
@@ -20,14 +20,14 @@ source k = gray8 k.args.«data».now k.args.width k.args.height k.args.stride
 
 returns : tie.Need-returns
 returns c =
-    write-refused (source c.before.before.before.before) _ c.before.layout-refusal.ensures c.if1.true
+    write_refused (source c.before.before.before.before) _ c.before.layout-refusal.ensures c.if1.true
 
 -- the picture is laid
 module _ (c : tie.Else1) where
   abbrev start : tie.Start
   start = c.before.before.before.before
 
-  taken : layoutRefusal (length start.args.«data».now) start.args.width start.args.height
+  taken : layout_refusal (length start.args.«data».now) start.args.width start.args.height
       start.args.stride ≡ 0
   taken = sym c.before.layout-refusal.ensures ∙ c.if1.false
 
@@ -38,23 +38,23 @@ header-length-requires : tie.Need-header-length-requires
 header-length-requires c κs = search rules
 
 mul-end : tie.Need-overflow-mul-end
-mul-end c = omega (arith, area-most (whole c.before))
+mul-end c = omega (arith, area_most (whole c.before))
 
 add-end : tie.Need-overflow-add-end
 add-end c =
     let a = (start c.before).args in
     omega (
       arith,
-      area-most (whole c.before),
+      area_most (whole c.before),
       c.header-length.ensures,
-      length-header a.width a.height,
+      length_header a.width a.height,
       count_most a.width,
       count_most a.height,
     )
 
 returns-2 : tie.Need-returns-2
 returns-2 c =
-    write-short (source (start c.before.before)) _ (taken c.before.before) c.before.header-length.ensures
+    write_short (source (start c.before.before)) _ (taken c.before.before) c.before.header-length.ensures
     refl c.if2.true
 
 put-header-requires : tie.Need-put-header-requires
@@ -88,7 +88,7 @@ returns-3 c =
     let put = c.before.before.before.before.before.before in
     let room = put.before.before in
     let k = room.before.before in
-    write-whole (source (start k)) _ (taken k) room.before.header-length.ensures refl room.if2.false
+    write_whole (source (start k)) _ (taken k) room.before.header-length.ensures refl room.if2.false
     put.put-header.ensures c.before.before.put-pixels.ensures
 
 pub write_spec : {M : Type 1} → statement M

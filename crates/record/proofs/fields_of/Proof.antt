@@ -1,7 +1,7 @@
 -- `record::fields_of` meets its contract.
 use borrow.Author.Rules.{rules}
 use Rattle.record.specs.Record.{fields_of}
-use Rattle.record.proofs.Doubles.{finite_number, not-nan}
+use Rattle.record.proofs.Doubles.{finite_number, not_nan}
 use Rattle.record.proofs.fields_of.Statement.{statement}
 use Rattle.record.proofs.fields_of.Tie as tie
 
@@ -19,12 +19,12 @@ value-requires c κs = search rules
 
 float-to-bits-t10 : tie.Need-float-to-bits-t10
 float-to-bits-t10 c =
-    let called = c.before.before in not-nan _ (finite_number _ called.before.before.before.requires.0)
+    let called = c.before.before in not_nan _ (finite_number _ called.before.before.before.requires.0)
 
 float-to-bits-t11 : tie.Need-float-to-bits-t11
 float-to-bits-t11 c =
     let called = c.before.before.before in
-    not-nan _ (finite_number _ called.before.before.before.requires.1)
+    not_nan _ (finite_number _ called.before.before.before.requires.1)
 
 returns : tie.Need-returns
 unfolding fields_of

@@ -1,6 +1,6 @@
 -- `record::filter_q` meets its contract.
 use borrow.Author.Rules.{rules}
-use Rattle.record.specs.Record.{filterQ}
+use Rattle.record.specs.Record.{filter_q}
 use Rattle.record.proofs.filter_q.Statement.{statement}
 use Rattle.record.proofs.filter_q.Tie as tie
 
@@ -35,22 +35,22 @@ enum_told : tie.Need-enum-told
 enum_told c = search rules
 
 returns : tie.Need-returns
-unfolding filterQ
+unfolding filter_q
 returns c =
     rw (c.before.before.before.filter.given.1, ← c.before.quantize-relaxation.ensures) c.exact-q.ensures
 
 returns-2 : tie.Need-returns-2
-unfolding filterQ
+unfolding filter_q
 returns-2 c =
     rw (c.before.before.before.filter2.given.1, ← c.before.quantize-relaxation2.ensures) c.exact-q2.ensures
 
 returns-3 : tie.Need-returns-3
-unfolding filterQ
+unfolding filter_q
 returns-3 c =
     rw (c.before.before.before.filter3.given.1, ← c.before.quantize-gain.ensures) c.exact-q3.ensures
 
 returns-4 : tie.Need-returns-4
-unfolding filterQ
+unfolding filter_q
 returns-4 c = rw c.enum_told.given.1
 
 pub filter-q-spec : {M : Type 1} → statement M

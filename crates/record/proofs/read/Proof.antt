@@ -1,7 +1,7 @@
 -- `record::read` meets its contract.
 use borrow.Author.Rules.{rules}
 use mathlib.Core.Path.{sym, ap, ◌∙◌}
-use Rattle.record.specs.Record.{readFields}
+use Rattle.record.specs.Record.{read_fields}
 use Rattle.record.proofs.Answer.{read_whole, read_short}
 use Rattle.record.proofs.read.Statement.{statement}
 use Rattle.record.proofs.read.Tie as tie
@@ -14,8 +14,8 @@ read-fields-requires c κs = search rules
 
 returns : tie.Need-returns
 returns c =
-    c.read-fields.ensures
-    ∙ ap readFields c.before.fields_in.ensures
+    c.read_fields_lem.ensures
+    ∙ ap read_fields c.before.fields_in.ensures
     ∙ sym (read_whole _ c.before.before.if1.true)
 
 returns-2 : tie.Need-returns-2

@@ -2,7 +2,7 @@
 use borrow.Author.Rules.{rules}
 use mathlib.Core.Path.{sym, ap, ◌∙◌}
 use Rattle.record.specs.declared.ReadAnswer.TheVariants as answer
-use Rattle.record.proofs.Answer.{fields-legal, fields-broken, fields-unknown}
+use Rattle.record.proofs.Answer.{fields_legal, fields_broken, fields_unknown}
 use Rattle.record.proofs.read_fields.Statement.{statement}
 use Rattle.record.proofs.read_fields.Tie as tie
 
@@ -24,7 +24,7 @@ returns c =
     let named = judged.before.before in
     ap answer.Record c.record_of.ensures
     ∙ sym
-    (fields-legal _ (sym named.before.before.filter-from.ensures ∙ named.filter.given.1)
+    (fields_legal _ (sym named.before.before.filter_from_lem.ensures ∙ named.filter.given.1)
     (sym judged.is-legal.ensures ∙ c.before.if1.true))
 
 returns-2 : tie.Need-returns-2
@@ -32,14 +32,14 @@ returns-2 c =
     let judged = c.before in
     let named = judged.before.before in
     sym
-    (fields-broken _ (sym named.before.before.filter-from.ensures ∙ named.filter.given.1)
+    (fields_broken _ (sym named.before.before.filter_from_lem.ensures ∙ named.filter.given.1)
     (sym judged.is-legal.ensures ∙ c.if1.false))
 
 enum_told : tie.Need-enum-told
 enum_told c = search rules
 
 returns-3 : tie.Need-returns-3
-returns-3 c = sym (fields-unknown _ (sym c.before.before.filter-from.ensures ∙ c.enum_told.given.1))
+returns-3 c = sym (fields_unknown _ (sym c.before.before.filter_from_lem.ensures ∙ c.enum_told.given.1))
 
 pub read-fields-spec : {M : Type 1} → statement M
 read-fields-spec =

@@ -1,6 +1,6 @@
 -- `record::record_fields` meets its contract.
 use borrow.Author.Rules.{rules}
-use Rattle.record.specs.Record.{recordFields}
+use Rattle.record.specs.Record.{record_fields}
 use Rattle.record.proofs.record_fields.Statement.{statement}
 use Rattle.record.proofs.record_fields.Tie as tie
 
@@ -17,13 +17,13 @@ enum_told : tie.Need-enum-told
 enum_told c = search rules
 
 returns : tie.Need-returns
-unfolding recordFields
+unfolding record_fields
 returns c =
     let known = c.before.before in
     rw (← known.before.before.filter-q.ensures, known.q.given.1) c.checked-fields.ensures
 
 returns-2 : tie.Need-returns-2
-unfolding recordFields
+unfolding record_fields
 returns-2 c = rw (← c.before.before.filter-q.ensures, c.enum_told.given.1)
 
 pub record-fields-spec : {M : Type 1} → statement M

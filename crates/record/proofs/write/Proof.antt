@@ -1,7 +1,7 @@
 -- `record::write` meets its contract.
 use borrow.Author.Rules.{rules}
 use mathlib.Core.Path.{refl, sym, ◌∙◌}
-use Rattle.record.proofs.Answer.{wrote-legal, wrote-broken, wrote-short}
+use Rattle.record.proofs.Answer.{wrote_legal, wrote_broken, wrote_short}
 use Rattle.record.proofs.write.Statement.{statement}
 use Rattle.record.proofs.write.Tie as tie
 
@@ -23,7 +23,7 @@ returns c =
     let named = put.before.before.before in
     let call = named.before.before in
     let whole = call.before.if1.true in
-    wrote-legal _ _ _ _ whole (sym call.record-fields.ensures ∙ named.fields.given.1)
+    wrote_legal _ _ _ _ whole (sym call.record_fields_lem.ensures ∙ named.fields.given.1)
     put.put-fields.ensures
 
 enum_told : tie.Need-enum-told
@@ -32,10 +32,10 @@ enum_told c = search rules
 returns-2 : tie.Need-returns-2
 returns-2 c =
     let call = c.before.before in
-    wrote-broken _ _ _ call.before.if1.true (sym call.record-fields.ensures ∙ c.enum_told.given.1) refl
+    wrote_broken _ _ _ call.before.if1.true (sym call.record_fields_lem.ensures ∙ c.enum_told.given.1) refl
 
 returns-3 : tie.Need-returns-3
-returns-3 c = wrote-short _ _ _ c.if1.false refl
+returns-3 c = wrote_short _ _ _ c.if1.false refl
 
 pub write_spec : {M : Type 1} → statement M
 write_spec =

@@ -2,12 +2,12 @@
 use mathlib.Core.Path.{◌≡◌, refl, sym, ◌∙◌}
 use native.Mathlib.Omega.{arith}
 use lib.ListN.{length}
-use Rattle.image.specs.Refusal.{pairRefusal, LaidPair}
-use Rattle.image.proofs.Call.{refused-by, accepted-by}
-use Rattle.image.proofs.Pair.{laid-pair, destination-laid}
-use Rattle.image.proofs.Refusal.{area-most}
-use Rattle.sharpen.specs.Call.{sharpenAnswer}
-use Rattle.sharpen.proofs.Call.{refusal-pair, refusal-10, refusal-0}
+use Rattle.image.specs.Refusal.{pair_refusal, LaidPair}
+use Rattle.image.proofs.Call.{refused_by, accepted_by}
+use Rattle.image.proofs.Pair.{laid_pair, destination_laid}
+use Rattle.image.proofs.Refusal.{area_most}
+use Rattle.sharpen.specs.Call.{sharpen_answer}
+use Rattle.sharpen.proofs.Call.{refusal_pair, refusal_10, refusal_0}
 use borrow.Author.Rules.{rules}
 use Rattle.sharpen.proofs.fixed_binomial_unsharp_into.Statement.{statement}
 use Rattle.sharpen.proofs.fixed_binomial_unsharp_into.Tie as tie
@@ -18,27 +18,27 @@ pair-refusal-requires c κs = search rules
 returns : tie.Need-returns
 returns c =
     let e = c.before.pair-refusal.ensures in
-    refused-by tt sharpenAnswer _ _ _ _ (refusal-pair _ _ _ _ _ _ _ _ _ (λ z. c.if1.true (e ∙ z)) ∙ sym e)
+    refused_by tt sharpen_answer _ _ _ _ (refusal_pair _ _ _ _ _ _ _ _ _ (λ z. c.if1.true (e ∙ z)) ∙ sym e)
     c.if1.true refl
 
 module _ (c : tie.Else1) where
   no-pair : let a = c.before.before.before.before.before.args in
-      pairRefusal (length a.«data».now) a.width a.height a.stride (length a.dst.now) a.dst-width
+      pair_refusal (length a.«data».now) a.width a.height a.stride (length a.dst.now) a.dst-width
       a.dst-height a.dst-stride ≡ 0
   no-pair = sym c.before.pair-refusal.ensures ∙ c.if1.false
 
   both : let a = c.before.before.before.before.before.args in
       LaidPair (length a.«data».now) a.width a.height a.stride (length a.dst.now) a.dst-width
       a.dst-height a.dst-stride
-  both = laid-pair no-pair
+  both = laid_pair no-pair
 
 mul-if2 : tie.Need-overflow-mul-if2
-mul-if2 c = omega (arith, area-most (both c).source)
+mul-if2 c = omega (arith, area_most (both c).source)
 
 returns-2 : tie.Need-returns-2
 returns-2 c =
-    refused-by tt sharpenAnswer _ _ _ 10
-    (refusal-10 _ _ _ _ _ _ _ _ _ (no-pair c.before) c.if2.true) (λ z. omega arith) refl
+    refused_by tt sharpen_answer _ _ _ 10
+    (refusal_10 _ _ _ _ _ _ _ _ _ (no-pair c.before) c.if2.true) (λ z. omega arith) refl
 
 blur-rows-requires : tie.Need-blur-rows-requires
 blur-rows-requires c κs = ((both c.before.before).source, c.before.if2.false)
@@ -50,7 +50,7 @@ sharpen-rows-requires c κs =
     let l = both room.before in (
       l.source,
       (
-        destination-laid l,
+        destination_laid l,
         (
           omega (arith, room.if2.false, blurred.blur-rows.auto.1.1.1.1.0),
           blurred.blur-rows.ensures,
@@ -69,7 +69,7 @@ returns-3 c =
     let sharpened = c.before.before in
     let blurred = sharpened.before.before.before.before.before in
     let room = blurred.before.before in
-    accepted-by tt sharpenAnswer _ _ _ _ _ (refusal-0 _ _ _ _ _ _ _ _ _ (no-pair room.before) room.if2.false) refl
+    accepted_by tt sharpen_answer _ _ _ _ _ (refusal_0 _ _ _ _ _ _ _ _ _ (no-pair room.before) room.if2.false) refl
     sharpened.sharpen-rows.ensures
 
 pub fixed-binomial-unsharp-into-spec : {M : Type 1} → statement M

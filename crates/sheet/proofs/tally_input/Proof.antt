@@ -5,11 +5,11 @@ use Prim.Native.Nat.{◌-◌}
 use native.Mathlib.Omega.{arith}
 use lib.ListN.{length, take}
 use Rattle.io.specs.Counts.{IsPrefixLen}
-use Rattle.summary.specs.File.{maxRecords}
+use Rattle.summary.specs.File.{max_records}
 use Rattle.summary.specs.Tally.{Held}
-use Rattle.summary.proofs.Answer.{parts-counted}
-use Rattle.summary.proofs.Parts.{parts-some}
-use Rattle.summary.proofs.Tallies.{empty-held}
+use Rattle.summary.proofs.Answer.{parts_counted}
+use Rattle.summary.proofs.Parts.{parts_some}
+use Rattle.summary.proofs.Tallies.{empty_held}
 use Rattle.sheet.proofs.tally_input.Statement.{statement}
 use Rattle.sheet.proofs.tally_input.Tie as tie
 
@@ -17,7 +17,7 @@ abbrev invariant-loop : tie.invariant-loop
 invariant-loop bytes₀ tally₀ n₀ bytes tally n = Held tally × (length bytes ≡ 65536) × IsPrefixLen n bytes
 
 abbrev decreases-loop : tie.decreases-loop
-decreases-loop bytes₀ tally₀ n₀ bytes tally n = maxRecords - tally.records
+decreases-loop bytes₀ tally₀ n₀ bytes tally n = max_records - tally.records
 
 large-buffer-requires : tie.Need-large-buffer-requires invariant-loop decreases-loop
 large-buffer-requires c κs = search rules
@@ -33,7 +33,7 @@ read-full-requires c κs = search rules
 
 loop-holds : tie.Need-loop-init invariant-loop decreases-loop
 loop-holds c =
-    (rw c.before.before.before.empty.ensures empty-held, search rules, c.before.read-full.ensures)
+    (rw c.before.before.before.empty.ensures empty_held, search rules, c.before.read-full.ensures)
 
 array-share-prefix-bytes : tie.Need-array-share-prefix-bytes invariant-loop decreases-loop
 array-share-prefix-bytes c = search rules
@@ -64,8 +64,8 @@ loop-less c =
     let given = c.before.before.before.before in
     let call = given.before.before in
     let turn = call.before.before.before in
-    let counted = parts-counted _ _ (sym call.add-all.ensures ∙ given.next.given.1) turn.loop.invariant.0 in
-    let some = parts-some (take turn.loop.n turn.loop.bytes) (omega arith) in
+    let counted = parts_counted _ _ (sym call.add-all.ensures ∙ given.next.given.1) turn.loop.invariant.0 in
+    let some = parts_some (take turn.loop.n turn.loop.bytes) (omega arith) in
     omega (arith, counted.0.records, counted.1, some)
 
 loop-again : tie.Need-loop-preserved invariant-loop decreases-loop
@@ -73,7 +73,7 @@ loop-again c =
     let given = c.before.before.before.before in
     let call = given.before.before in
     let turn = call.before.before.before in
-    let counted = parts-counted _ _ (sym call.add-all.ensures ∙ given.next.given.1) turn.loop.invariant.0 in
+    let counted = parts_counted _ _ (sym call.add-all.ensures ∙ given.next.given.1) turn.loop.invariant.0 in
     (counted.0, search rules, c.before.read-full2.ensures)
 
 returns-2 : tie.Need-returns-2 invariant-loop decreases-loop

@@ -2,7 +2,7 @@
 use borrow.Author.Rules.{rules}
 use mathlib.Core.Path.{sym}
 use lib.Seq.{length-take-le}
-use Rattle.smear_run.proofs.Printed.{ran-fits}
+use Rattle.smear_run.proofs.Printed.{ran_fits}
 use Rattle.smear.proofs.main.Statement.{statement}
 use Rattle.smear.proofs.main.Tie as tie
 
@@ -50,7 +50,7 @@ printed-fits : tie.Need-array-share-prefix-out
 printed-fits c =
     let at-run = c.before.before.before.before in
     let call = at-run.run in rw call.auto.1.1.0
-    (ran-fits call.ensures call.auto.1.1.0 c.before.answer.given.1)
+    (ran_fits call.ensures call.auto.1.1.0 c.before.answer.given.1)
 
 array-share-prefix-out : tie.Need-array-share-prefix-out
 array-share-prefix-out c = printed-fits c

@@ -1,7 +1,7 @@
 -- `smear_run::run` meets its contract.
 use borrow.Author.Rules.{rules}
 use mathlib.Core.Path.{sym, ◌∙◌}
-use Rattle.smear_run.proofs.Printed.{of-record, of-refused}
+use Rattle.smear_run.proofs.Printed.{of_record, of_refused}
 use Rattle.smear_run.proofs.run.Statement.{statement}
 use Rattle.smear_run.proofs.run.Tie as tie
 
@@ -32,7 +32,7 @@ returns c =
     let named = ran.before.before.before in
     let called = named.before.before in
     let start = called.before.before.before.before in
-    rw (of-record start.args.job.now start.args.picture.now
+    rw (of_record start.args.job.now start.args.picture.now
     (sym called.read.ensures ∙ named.«record».given.1)) ran.run-record.ensures
 
 same-length-2 : tie.Need-same-length-2
@@ -44,7 +44,7 @@ returns-2 c =
     let named = put.before.before.before in
     let called = named.before.before in
     let start = called.before.before.before.before in
-    rw (of-refused start.args.job.now start.args.picture.now
+    rw (of_refused start.args.job.now start.args.picture.now
     (sym called.read.ensures ∙ named.number.given.1)) put.put-refusal.ensures
 
 pub run_spec : {M : Type 1} → statement M

@@ -3,7 +3,7 @@ use borrow.Author.Rules.{rules}
 use mathlib.Core.Path.{sym, ap, ◌∙◌}
 use Rattle.summary.specs.declared.SummaryAnswer.TheVariants.{Summary}
 use Rattle.summary.proofs.Answer.{finished, finishes}
-use Rattle.summary.proofs.Tallies.{empty-held}
+use Rattle.summary.proofs.Tallies.{empty_held}
 use Rattle.summary.proofs.summarize.Statement.{statement}
 use Rattle.summary.proofs.summarize.Tie as tie
 
@@ -11,7 +11,7 @@ empty-requires : tie.Need-empty-requires
 empty-requires c κs = search rules
 
 add-all-requires : tie.Need-add-all-requires
-add-all-requires c κs = rw c.empty.ensures empty-held
+add-all-requires c κs = rw c.empty.ensures empty_held
 
 enum-known-tally : tie.Need-enum-known-tally
 enum-known-tally c = search rules

@@ -12,12 +12,12 @@ use denote.Signature.{named_lft}
 use denote.Struct.Laws as LL
 use Rattle.walks.proofs.Script.{Ura, w64, Val, SProp, emp, id⊢, Memory, Routine, Tables, Lfts, Shares, Fun}
 use Rattle.walks.proofs.Script.{fact_i, ◌$◌, !, move, keep, drop, fsplit, fjoin, nothing, Args, cited, asked}
-use Rattle.walks.proofs.Script.{Knows, calls-on, calls-giving, Argument, made, had, uint, returns, lent, shared, execs}
-use Rattle.walks.proofs.Script.{◌▸◌, Valid, Shows, Ends, Begun, meets, token, token-of, unties, ties, erased}
+use Rattle.walks.proofs.Script.{Knows, calls_on, calls_giving, Argument, made, had, uint, returns, lent, shared, execs}
+use Rattle.walks.proofs.Script.{◌▸◌, Valid, Shows, Ends, Begun, meets, token, token_of, unties, ties, erased}
 use Rattle.walks.proofs.Data.{Data, enum}
 use Rattle.walks.proofs.Parameters.{spent}
 use Rattle.image.specs.Call.{gray8}
-use Rattle.image.specs.View.{view_of, viewMutOf}
+use Rattle.image.specs.View.{view_of, view_mut_of}
 use Rattle.image.specs.declared.view.Gray8View.{Gray8View}
 use Rattle.image.specs.declared.view.Gray8ViewMut.{Gray8ViewMut}
 use Rattle.image.proofs.ViewParameters.{view, view_mut}
@@ -75,7 +75,7 @@ module _ {M : Type 1} {𝓤 : Ura M} (𝓛 : Logic 𝓤) (mem : Memory → SProp
   from = view_of a.0 w h s
 
   abbrev to : Gray8ViewMut
-  to = viewMutOf a.1.0 w h s
+  to = view_mut_of a.1.0 w h s
 
   abbrev α : NamedLft
   α = record { mir = erased; lft = κs.0 }
@@ -88,7 +88,7 @@ module _ {M : Type 1} {𝓤 : Ura M} (𝓛 : Logic 𝓤) (mem : Memory → SProp
       move ! (1 ∷ []) $ unties ! 2 κs qs $ move ! (3 ∷ []) $ fsplit ! $ nothing ! $ move ! (1 ∷ 0 ∷ []) $ fjoin ! $
       move ! (2 ∷ []) $ token ! (κs.0 ▸ tt) (qs.0 ▸ tt) $ move ! (4 ∷ 0 ∷ 1 ∷ []) $
       -- [the locals; src's token; src; the others; their tokens]
-      calls-giving ! 𝓣 1 (had (shared 0 tt u8) ∷ made (uint w64) ∷ made (uint w64) ∷ made (uint w64) ∷ []) (λ κs.
+      calls_giving ! 𝓣 1 (had (shared 0 tt u8) ∷ made (uint w64) ∷ made (uint w64) ∷ made (uint w64) ∷ []) (λ κs.
       Read.the_row (named_lft 1 0 tt κs)) (new.clauses 𝓛 mem run) known-new (κs.0 ▸ tt) (qs.0 ▸ tt) (a.0 ▸ w ▸ h ▸
       s ▸ tt) tt (are.1.1.0 ▸ are.1.1.1.0 ▸ are.1.1.1.1.0 ▸ tt) (id⊢ 𝓤 (emp 𝓤)) refl tt tt from _ (λ r _.
       id⊢ 𝓤 _) (LL.tells (Read.the_type α) (Read'.the_laws α) from) (λ is. ((LL.lawful (Read.the_type α) (Read'.the_laws
@@ -96,14 +96,14 @@ module _ {M : Type 1} {𝓤 : Ura M} (𝓛 : Logic 𝓤) (mem : Memory → SProp
       fjoin ! $ move ! (5 ∷ []) $ unties ! 1 κs.1 qs.1 $ token ! (κs.1.0 ▸ tt) (qs.1.0 ▸ tt) $ move ! (4 ∷ 0 ∷
       2 ∷ []) $
       -- [the locals; dst's token; dst; the scratch's token; the scratch; src's token; the view]
-      calls-giving ! 𝓣 1 (had (spent 0 tt u8) ∷ made (uint w64) ∷ made (uint w64) ∷ made (uint w64) ∷ []) (λ κs.
+      calls_giving ! 𝓣 1 (had (spent 0 tt u8) ∷ made (uint w64) ∷ made (uint w64) ∷ made (uint w64) ∷ []) (λ κs.
       Write.the_row (named_lft 1 0 tt κs)) (new-mut.clauses 𝓛 mem run) known-new-mut (κs.1.0 ▸ tt) (qs.1.0 ▸ tt)
       (a.1.0 ▸ w ▸ h ▸ s ▸ tt) tt (are.1.1.0 ▸ are.1.1.1.0 ▸ are.1.1.1.1.0 ▸ tt) (id⊢ 𝓤 (emp 𝓤)) refl tt
       tt to _ (λ r _. id⊢ 𝓤 _) (LL.tells (Write.the_type β) (Write'.the_laws β) to) (λ is. ((LL.lawful (Write.the_type β)
       (Write'.the_laws β) 𝓛).typed to _ is).0) $ execs ! $ move ! (2 ∷ 4 ∷ []) $ fjoin ! $ move ! (5 ∷ 0 ∷ []) $
-      fjoin ! $ move ! (2 ∷ []) $ token-of ! (κs.1.0 ▸ tt) (qs.1.0 ▸ tt) $ move ! (0 ∷ 3 ∷ []) $ ties ! 1 κs.1
-      qs.1 $ move ! (3 ∷ []) $ token-of ! (κs.0 ▸ tt) (qs.0 ▸ tt) $ ties ! 2 κs qs $ move ! (2 ∷ 0 ∷ 1 ∷ []) $
-      calls-on ! 𝓣 3 (had (view 0 tt) ∷ had (view_mut 1 tt) ∷ had (lent 2 tt u16) ∷ []) answer (sharpen.clauses 𝓛
+      fjoin ! $ move ! (2 ∷ []) $ token_of ! (κs.1.0 ▸ tt) (qs.1.0 ▸ tt) $ move ! (0 ∷ 3 ∷ []) $ ties ! 1 κs.1
+      qs.1 $ move ! (3 ∷ []) $ token_of ! (κs.0 ▸ tt) (qs.0 ▸ tt) $ ties ! 2 κs qs $ move ! (2 ∷ 0 ∷ 1 ∷ []) $
+      calls_on ! 𝓣 3 (had (view 0 tt) ∷ had (view_mut 1 tt) ∷ had (lent 2 tt u16) ∷ []) answer (sharpen.clauses 𝓛
       mem run) known-sharpen κs qs (from ▸ to ▸ a.1.1.1.1.1.0 ▸ tt) tt tt (id⊢ 𝓤 (emp 𝓤)) refl tt refl (λ r ws.
       Shown κs a r (tt ▸ ws.1.0.0 ▸ tt ▸ tt ▸ tt ▸ ws.1.1.0 ▸ tt)) (λ r ws. id⊢ 𝓤 _) (λ r ws said is.
       -- [the locals; the tokens; what says the last bytes and the last scratch]

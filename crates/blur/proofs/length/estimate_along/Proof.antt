@@ -14,10 +14,10 @@ use denote.Builtin.{u8}
 use denote.Struct.Laws as LL
 use Rattle.walks.proofs.Script.{Ura, full_share, named, w8, w64, Val, vint, SProp, emp, id⊢, Memory, Routine}
 use Rattle.walks.proofs.Script.{Tables, Lfts, Shares, Fun, fact_i, ◌$◌, !, move, keep, drop, fsplit, fjoin}
-use Rattle.walks.proofs.Script.{Room, slice_val, nothing, Args, cited, asked, Knows, calls-on, calls-equal, Argument}
-use Rattle.walks.proofs.Script.{made, had, uint, lends, loan-ends, shares_out, ends-share, env, returns, ends-within}
+use Rattle.walks.proofs.Script.{Room, slice_val, nothing, Args, cited, asked, Knows, calls_on, calls_equal, Argument}
+use Rattle.walks.proofs.Script.{made, had, uint, lends, loan_ends, shares_out, ends_share, env, returns, ends_within}
 use Rattle.walks.proofs.Script.{opens, closes, unopened, lent, shared, execs, ◌▸◌, forks, Valid, Shows, Ends, Begun}
-use Rattle.walks.proofs.Script.{meets, token, token-of, tokens, tokens-of, only-last, RefT, GName, some}
+use Rattle.walks.proofs.Script.{meets, token, token_of, tokens, tokens_of, only_last, RefT, GName, some}
 use Rattle.image.specs.Call.{gray8}
 use Rattle.raster.specs.declared.direction.RasterDirection4.{RasterDirection4}
 use Rattle.swings.specs.Line.{ValidPlan}
@@ -34,13 +34,13 @@ use Rattle.swings.proofs.scan.begin.Met as begin-thm
 use Rattle.swings.specs.contracts.kernel.fill as fill
 use Rattle.swings.proofs.kernel.fill.Symbol as fill-def
 use Rattle.swings.proofs.kernel.fill.Met as fill-thm
-use Rattle.blur.specs.Length.{lengthRefusal, scanPlan, LengthMeasured}
+use Rattle.blur.specs.Length.{length_refusal, scan_plan, LengthMeasured}
 use Rattle.blur.specs.Median.{length_of}
 use Rattle.blur.specs.Select.{started}
 use Rattle.blur.specs.declared.length.LengthAnswer.TheVariants.{Length, Refused}
-use Rattle.blur.proofs.ScanPlans.{valid-plan}
-use Rattle.blur.proofs.Estimate.{measured-refused, some-lent, all-lent, within-lent, numbers, selectable}
-use Rattle.blur.proofs.Estimate.{measured-length}
+use Rattle.blur.proofs.ScanPlans.{valid_plan}
+use Rattle.blur.proofs.Estimate.{measured_refused, some_lent, all_lent, within_lent, numbers, selectable}
+use Rattle.blur.proofs.Estimate.{measured_length}
 use Rattle.blur.proofs.PlainData.{state, answer, direction}
 use Rattle.blur.specs.contracts.records.select as select
 use Rattle.blur.proofs.records.select.Symbol as select-def
@@ -107,10 +107,10 @@ module _ {M : Type 1} {𝓤 : Ura M} (𝓛 : Logic 𝓤) (mem : Memory → SProp
 
   -- what is scanned, and the refusal's number
   abbrev scans : ScanPlan
-  scans = scanPlan (length xs) (length ys.now) w h s d m l
+  scans = scan_plan (length xs) (length ys.now) w h s d m l
 
   abbrev number : ℕ
-  number = lengthRefusal (length xs) w h s (length ys.now)
+  number = length_refusal (length xs) w h s (length ys.now)
 
   room : Room S.the_row (length ys.now)
   room = are.1.1.1.1.1.1.1.0.0.1
@@ -122,53 +122,53 @@ module _ {M : Type 1} {𝓤 : Ura M} (𝓛 : Logic 𝓤) (mem : Memory → SProp
   fillable : number ≡ 0 → ValidPlan scans (length xs) × (begun ≡ begun) × (0 < length ys.now) × (length (rest xs
       scans begun.next) ≤ length ys.now)
   fillable e = (
-    valid-plan (length xs) (length ys.now) w h s d m l e,
+    valid_plan (length xs) (length ys.now) w h s d m l e,
     refl,
-    some-lent xs w h s d m l ys.now e,
-    all-lent xs w h s d m l ys.now e,
+    some_lent xs w h s d m l ys.now e,
+    all_lent xs w h s d m l ys.now e,
   )
 
   walk : Begun arguments answer 𝓛 𝓣 code.function κs qs a bs Kf
   walk =
-      execs ! $ calls-equal ! 𝓣 (uint w64 ∷ uint w64 ∷ uint w64 ∷ uint w64 ∷ uint w64 ∷ direction ∷ uint w64 ∷ uint w8 ∷
+      execs ! $ calls_equal ! 𝓣 (uint w64 ∷ uint w64 ∷ uint w64 ∷ uint w64 ∷ uint w64 ∷ direction ∷ uint w64 ∷ uint w8 ∷
       []) plan (planned.clauses 𝓛 mem run) known.plans (length xs ▸ length ys.now ▸ w ▸ h ▸ s ▸ d ▸ m ▸ l ▸
       tt) tt ((refl, are.0.0.1.0) ▸ (refl, room.0) ▸ are.1.0 ▸ are.1.1.0 ▸ are.1.1.1.0 ▸ are.1.1.1.1.0 ▸ are.1.1.1.1.1.0 ▸ are.1.1.1.1.1.1.0 ▸ tt) (id⊢ 𝓤 (emp 𝓤)) refl tt refl scans (λ r _. id⊢ 𝓤 _)
       (λ is-plan. execs ! $ forks ! (not (eqb number 0)) refl (λ e q' back.
       -- a refusal
-      calls-equal ! 𝓣 (uint w8 ∷ []) answer (refused.clauses 𝓛 mem run) known.refuses (number ▸ tt) tt ((LL.owed
+      calls_equal ! 𝓣 (uint w8 ∷ []) answer (refused.clauses 𝓛 mem run) known.refuses (number ▸ tt) tt ((LL.owed
       Q.the_type Q'.the_laws scans _ is-plan).0 ▸ tt) (id⊢ 𝓤 (emp 𝓤)) refl tt refl (Refused number) (λ r _. id⊢ 𝓤 _)
-      (λ is. move ! (2 ∷ []) $ fsplit ! $ drop ! $ fsplit ! $ unopened ! S.the_row ys $ only-last ! 7 $ keep ! (2 ∷ 3 ∷
-      0 ∷ []) $ ends-within ! Kf back refl $ ends (Refused number) (tt ▸ tt ▸ tt ▸ tt ▸ tt ▸ tt ▸ tt ▸ ys.now ▸ tt) is
-      (measured-refused xs w h s d m l ys.now (eqb-false number 0 (sym (not-not (eqb number 0)) ∙ ap not e)) _
+      (λ is. move ! (2 ∷ []) $ fsplit ! $ drop ! $ fsplit ! $ unopened ! S.the_row ys $ only_last ! 7 $ keep ! (2 ∷ 3 ∷
+      0 ∷ []) $ ends_within ! Kf back refl $ ends (Refused number) (tt ▸ tt ▸ tt ▸ tt ▸ tt ▸ tt ▸ tt ▸ ys.now ▸ tt) is
+      (measured_refused xs w h s d m l ys.now (eqb-false number 0 (sym (not-not (eqb number 0)) ∙ ap not e)) _
       refl))) (λ e. let none = eqb-true number 0 (sym (not-not (eqb number 0)) ∙ ap not e) in
-      calls-equal ! 𝓣 [] scanned (begin.clauses 𝓛 mem run) known.begins tt tt tt (id⊢ 𝓤 (emp 𝓤)) refl tt refl
-      begun (λ r _. id⊢ 𝓤 _) (λ is-begun. execs ! $ move ! (1 ∷ []) $ tokens-of ! κs qs $ move ! (3 ∷ []) $ fsplit ! $
+      calls_equal ! 𝓣 [] scanned (begin.clauses 𝓛 mem run) known.begins tt tt tt (id⊢ 𝓤 (emp 𝓤)) refl tt refl
+      begun (λ r _. id⊢ 𝓤 _) (λ is-begun. execs ! $ move ! (1 ∷ []) $ tokens_of ! κs qs $ move ! (3 ∷ []) $ fsplit ! $
       move ! (1 ∷ []) $ fsplit ! $
       -- [the records; true; the bytes; the tokens; the locals]: the records are lent to `fill`
       move ! (0 ∷ 4 ∷ []) $ opens ! tt S.the_row ys $
       lends ! tt S.the_row (named 1) ys.now ys.ref_ptr.0 ys.ref_ptr.1 room (λ α δ. nothing ! $ move ! (1 ∷ 0 ∷ []) $
       fjoin ! $ move ! (5 ∷ 0 ∷ []) $ fjoin ! $ move ! (5 ∷ 1 ∷ []) $ tokens ! (κs.0 ▸ α ∷ [] ▸ tt) (qs.0 ▸ full_share
-      ▸ tt) $ move ! (5 ∷ 0 ∷ 1 ∷ []) $ calls-on ! 𝓣 2 (had (shared 0 tt u8) ∷ made plan ∷ made scanned ∷ had (lent 1 tt
+      ▸ tt) $ move ! (5 ∷ 0 ∷ 1 ∷ []) $ calls_on ! 𝓣 2 (had (shared 0 tt u8) ∷ made plan ∷ made scanned ∷ had (lent 1 tt
       S.the_row) ∷ []) scan (fill.clauses 𝓛 mem run) known.fills (κs.0 ▸ α ∷ [] ▸ tt) (qs.0 ▸ full_share ▸ tt)
       (a.0 ▸ scans ▸ begun ▸ at_name δ ys.now ▸ tt) tt (is-plan ▸ is-begun ▸ tt) (fact_i 𝓤 _ (emp 𝓤) (fillable none))
       refl tt refl (λ r ws. Filled xs (rest xs scans begun.next) ws.1.1.1.0 r) (λ r ws. id⊢ 𝓤 _) (λ r₁ ws e₁
-      is₁. move ! (1 ∷ []) $ tokens-of ! (κs.0 ▸ α ∷ [] ▸ tt) (qs.0 ▸ full_share ▸ tt) $ move ! (3 ∷ []) $ fsplit ! $
+      is₁. move ! (1 ∷ []) $ tokens_of ! (κs.0 ▸ α ∷ [] ▸ tt) (qs.0 ▸ full_share ▸ tt) $ move ! (3 ∷ []) $ fsplit ! $
       drop ! $ fsplit ! $ drop ! $ fsplit ! $ drop ! $ fsplit ! $ move ! (3 ∷ 5 ∷ 0 ∷ []) $
-      loan-ends ! tt S.the_row ws.1.1.1.0 (length ys.now) ys.ref_ptr.0 ys.ref_ptr.1 α δ (λ same. let zs = ws.1.1.1.0 in
+      loan_ends ! tt S.the_row ws.1.1.1.0 (length ys.now) ys.ref_ptr.0 ys.ref_ptr.1 α δ (λ same. let zs = ws.1.1.1.0 in
       -- [the row; true; a token; the locals; what closes the row; true]: the records are shared with `select`
-      keep ! (3 ∷ 0 ∷ 2 ∷ 4 ∷ []) $ execs ! $ calls-equal ! 𝓣 (scan ∷ []) state (opened.clauses 𝓛 mem run) known.starts (r₁ ▸ tt) tt (is₁ ▸ tt) (fact_i 𝓤 _ (emp 𝓤) (numbers xs w h s d m l ys.now none r₁ zs e₁)) refl tt refl
+      keep ! (3 ∷ 0 ∷ 2 ∷ 4 ∷ []) $ execs ! $ calls_equal ! 𝓣 (scan ∷ []) state (opened.clauses 𝓛 mem run) known.starts (r₁ ▸ tt) tt (is₁ ▸ tt) (fact_i 𝓤 _ (emp 𝓤) (numbers xs w h s d m l ys.now none r₁ zs e₁)) refl tt refl
       (started r₁.strongest r₁.span r₁.count) (λ r _. id⊢ 𝓤 _) (λ is₂. move ! (1 ∷ []) $
       shares_out ! tt S.the_row (named 0) zs ys.ptr.0 ys.ptr.1 (subst (Room S.the_row) (sym same) room) (λ β ε.
       nothing ! $ move ! (1 ∷ 0 ∷ []) $ fjoin ! $ move ! (1 ∷ []) $ token ! (β ∷ [] ▸ tt) (full_share ▸ tt) $ move ! (3 ∷
-      0 ∷ 1 ∷ []) $ calls-on ! 𝓣 1 (had (shared 0 tt S.the_row) ∷ made state ∷ made (uint w64) ∷ []) answer
+      0 ∷ 1 ∷ []) $ calls_on ! 𝓣 1 (had (shared 0 tt S.the_row) ∷ made state ∷ made (uint w64) ∷ []) answer
       (select.clauses 𝓛 mem run) known.selects (β ∷ [] ▸ tt) (full_share ▸ tt) (at_name ε zs ▸ started r₁.strongest r₁.span r₁.count ▸ m ▸ tt) tt (is₂ ▸ are.1.1.1.1.1.0 ▸ tt) (fact_i 𝓤 _ (emp 𝓤) (
-      within-lent xs w h s d m l ys.now none r₁ zs e₁ _ refl same ▸ selectable xs w h s d m l ys.now none r₁ zs e₁
+      within_lent xs w h s d m l ys.now none r₁ zs e₁ _ refl same ▸ selectable xs w h s d m l ys.now none r₁ zs e₁
       _ refl)) (ap (λ (k : ℕ). some (slice_val ys.ptr k ∷ state.val (started r₁.strongest r₁.span r₁.count)
       ∷ vint w64 m ∷ [])) (sym same)) tt refl (λ r ws. r ≡ Length (length_of (take r₁.count zs) m)) (λ r ws. id⊢ 𝓤 _)
-      (λ r₃ ws₃ e₃ is₃. move ! (1 ∷ []) $ token-of ! (β ∷ [] ▸ tt) (full_share ▸ tt) $ move ! (0 ∷ 3 ∷ []) $
-      ends-share ! tt S.the_row zs ys.ptr.0 ys.ptr.1 β $ move ! (0 ∷ 4 ∷ []) $ closes ! tt S.the_row ys zs
-      same $ move ! (4 ∷ 1 ∷ []) $ tokens ! κs qs $ move ! (1 ∷ []) $ only-last ! 7 $ keep ! (2 ∷ 1 ∷ 0 ∷ []) $
-      returns ! refl $ ends r₃ (tt ▸ tt ▸ tt ▸ tt ▸ tt ▸ tt ▸ tt ▸ zs ▸ tt) is₃ (measured-length xs w h s d m l ys.now none r₁ zs e₁ _ refl r₃ e₃))))))))))
+      (λ r₃ ws₃ e₃ is₃. move ! (1 ∷ []) $ token_of ! (β ∷ [] ▸ tt) (full_share ▸ tt) $ move ! (0 ∷ 3 ∷ []) $
+      ends_share ! tt S.the_row zs ys.ptr.0 ys.ptr.1 β $ move ! (0 ∷ 4 ∷ []) $ closes ! tt S.the_row ys zs
+      same $ move ! (4 ∷ 1 ∷ []) $ tokens ! κs qs $ move ! (1 ∷ []) $ only_last ! 7 $ keep ! (2 ∷ 1 ∷ 0 ∷ []) $
+      returns ! refl $ ends r₃ (tt ▸ tt ▸ tt ▸ tt ▸ tt ▸ tt ▸ tt ▸ zs ▸ tt) is₃ (measured_length xs w h s d m l ys.now none r₁ zs e₁ _ refl r₃ e₃))))))))))
 
 pub estimate-along-spec : {M : Type 1} → statement M
 unfolding code.routine tables_of

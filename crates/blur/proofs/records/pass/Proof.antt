@@ -18,17 +18,17 @@ use denote.Struct.Laws as LL
 use Rattle.walks.proofs.Script.{none, some, Ura, full_share, named, w64, Val, vint, Fits, SProp, emp, id⊢, Share, fobor}
 use Rattle.walks.proofs.Script.{Memory, Routine, Tables, Lfts, Shares, Fun, fact_i, Item, ‵, ◌$◌, ! }
 use Rattle.walks.proofs.Script.{move, keep, drop, fsplit, fjoin, arr_parts, Is, shares, RefT, slice_val, Room, row}
-use Rattle.walks.proofs.Script.{shuts_slice, nothing, Args, Triple, cited, asked, calls-on, Argument, made, had, uint}
-use Rattle.walks.proofs.Script.{kinds, Of, values-in, lends, loan-ends, Values, returns, Open, opens, closes, looks}
-use Rattle.walks.proofs.Script.{reads-elem, lent, shared, execs, ◌▸◌, operates, operates-last, whiles, Valid, Asks}
-use Rattle.walks.proofs.Script.{Shows, Ends, Begun, meets, token, token-of, tokens, tokens-of, only-last}
+use Rattle.walks.proofs.Script.{shuts_slice, nothing, Args, Triple, cited, asked, calls_on, Argument, made, had, uint}
+use Rattle.walks.proofs.Script.{kinds, Of, values-in, lends, loan_ends, Values, returns, Open, opens, closes, looks}
+use Rattle.walks.proofs.Script.{reads_elem, lent, shared, execs, ◌▸◌, operates, operates_last, whiles, Valid, Asks}
+use Rattle.walks.proofs.Script.{Shows, Ends, Begun, meets, token, token_of, tokens, tokens_of, only_last}
 use Rattle.walks.proofs.Fold as L
 use Rattle.walks.proofs.Lists.{one_more}
 use Rattle.swings.specs.declared.Swing.{Swing}
 use Rattle.swings.proofs.PlainData.{swing}
 use Rattle.swings.specs.contracts.Swing as S
 use Rattle.swings.proofs.Swing.TheLaws as S'
-use Rattle.blur.specs.Select.{passed, tallied, TallyAsked, Tallied, passAll, tallyAll, PassAsked, Passes}
+use Rattle.blur.specs.Select.{passed, tallied, TallyAsked, Tallied, pass_all, tally_all, PassAsked, Passes}
 use Rattle.blur.specs.declared.select.Pass.{Pass}
 use Rattle.blur.proofs.PlainData.{state}
 use Rattle.blur.specs.contracts.select.Pass as P
@@ -62,7 +62,7 @@ abbrev one : Swing → Both → Both
 one x t = (passed x t.0, tallied x t.0 t.1)
 
 abbrev each : List Swing → Both → Both
-each l t = (passAll l t.0, tallyAll l t.0 t.1)
+each l t = (pass_all l t.0, tally_all l t.0 t.1)
 
 abbrev May : Swing → Both → Type 0
 May x t = TallyAsked x t.0 t.1
@@ -108,48 +108,48 @@ module _ {M : Type 1} {𝓤 : Ura M} (𝓛 : Logic 𝓤) (mem : Memory → SProp
     has-place : ltb t.at n ≡ true → t.at < length xs
     has-place e = lt_of_lt_of_le (below e) asks.0
 
-    place-fits : ltb t.at n ≡ true → Fits w64 (t.at * 16)
-    place-fits e = record { fits = omega (arith, has-place e, are.0.0.1.1) }
+    place_fits : ltb t.at n ≡ true → Fits w64 (t.at * 16)
+    place_fits e = record { fits = omega (arith, has-place e, are.0.0.1.1) }
 
     next_fits : ltb t.at n ≡ true → Fits w64 (t.at + 1)
     next_fits e = record { fits = omega (arith, below e, are.1.0.1) }
 
-    after-fits : ltb t.at n ≡ true → Fits w64 (suc t.at)
-    after-fits e = subst (Fits w64) (one_more t.at) (next_fits e)
+    after_fits : ltb t.at n ≡ true → Fits w64 (suc t.at)
+    after_fits e = subst (Fits w64) (one_more t.at) (next_fits e)
 
   walk : Begun arguments state 𝓛 𝓣 code.function κs qs a bs Kf
   walk =
-      execs ! $ move ! (1 ∷ []) $ tokens-of ! κs qs $ move ! (3 ∷ []) $ fsplit ! $ move ! (1 ∷ []) $ fsplit ! $
+      execs ! $ move ! (1 ∷ []) $ tokens_of ! κs qs $ move ! (3 ∷ []) $ fsplit ! $ move ! (1 ∷ []) $ fsplit ! $
       -- [the counts; true; the records; their tokens; the locals]
       move ! (0 ∷ 4 ∷ []) $ opens ! tt u32 cs $ move ! (3 ∷ 4 ∷ []) $
       looks ! tt swing (LL.copy S.the_type S'.the_copy 𝓛) a.0 (λ q. keep ! (5 ∷ 0 ∷ 2 ∷ 1 ∷ 3 ∷ []) $
       whiles ! 𝓣 (λ t. n - t.at) σ (Γ q) 7 7 (λ t. ltb t.at n) _ (λ t. refl) (λ t. tt)
       (λ t e q' again.
-      let x = get_or xs t.at no-swing in operates ! (vint w64 (t.at * 16)) refl refl (place-fits t e) refl tt
-      (tt, place-fits t e) $ execs ! $ reads-elem ! swing q xs t.at no-swing _ _ (has-place t e) refl tt refl
+      let x = get_or xs t.at no-swing in operates ! (vint w64 (t.at * 16)) refl refl (place_fits t e) refl tt
+      (tt, place_fits t e) $ execs ! $ reads_elem ! swing q xs t.at no-swing _ _ (has-place t e) refl tt refl
       (λ is_x. execs ! $
       -- the counts are lent to the step
       move ! (2 ∷ []) $ lends ! tt u32 (named 0) t.acc.1 cs.ptr.0 cs.ptr.1 (subst (Room u32) (sym t.real.1) are.1.1.1.0.0.1) (λ α δ. nothing ! $ move ! (1 ∷ 0 ∷ []) $ fjoin ! $ move ! (1 ∷ []) $ token ! (α ∷
       [] ▸ tt) (full_share ▸ tt) $ move ! (3 ∷ 0 ∷ 1 ∷ []) $
-      calls-on ! 𝓣 1 (made swing ∷ made state ∷ had (lent 0 tt u32) ∷ []) state (tally.clauses 𝓛 mem run) known (α ∷
-      [] ▸ tt) (full_share ▸ tt) (x ▸ t.acc.0 ▸ record { ref_ptr = cs.ptr; ghost_name = δ; now = t.acc.1 } ▸ tt) tt (is_x ▸ t.real.0 ▸ tt) (fact_i 𝓤 _ (emp 𝓤) (L.allowed-here _ _ _ _ _ _ _ _ law t no-swing (below t e) asks.0)) (ap (λ (k
+      calls_on ! 𝓣 1 (made swing ∷ made state ∷ had (lent 0 tt u32) ∷ []) state (tally.clauses 𝓛 mem run) known (α ∷
+      [] ▸ tt) (full_share ▸ tt) (x ▸ t.acc.0 ▸ record { ref_ptr = cs.ptr; ghost_name = δ; now = t.acc.1 } ▸ tt) tt (is_x ▸ t.real.0 ▸ tt) (fact_i 𝓤 _ (emp 𝓤) (L.allowed_here _ _ _ _ _ _ _ _ law t no-swing (below t e) asks.0)) (ap (λ (k
       : ℕ). some (swing.val x ∷ state.val t.acc.0 ∷ slice_val cs.ptr k ∷ [])) (sym t.real.1)) tt refl (λ r
       ws. Tallied x t.acc.0 t.acc.1 ws.1.1.0 r) (λ r ws. id⊢ 𝓤 _) (λ r ws said is.
-      move ! (1 ∷ []) $ token-of ! (α ∷ [] ▸ tt) (full_share ▸ tt) $ move ! (2 ∷ []) $ fsplit ! $ drop ! $ fsplit ! $
+      move ! (1 ∷ []) $ token_of ! (α ∷ [] ▸ tt) (full_share ▸ tt) $ move ! (2 ∷ []) $ fsplit ! $ drop ! $ fsplit ! $
       drop ! $ fsplit ! $ move ! (2 ∷ 4 ∷ 0 ∷ []) $
-      loan-ends ! tt u32 ws.1.1.0 (length t.acc.1) cs.ptr.0 cs.ptr.1 α δ (λ l.
+      loan_ends ! tt u32 ws.1.1.0 (length t.acc.1) cs.ptr.0 cs.ptr.1 α δ (λ l.
       -- [the counts; true; the locals; the records; what closes both]
-      keep ! (2 ∷ 3 ∷ 0 ∷ 4 ∷ 5 ∷ []) $ operates-last ! (vint w64 (suc t.at)) refl refl (next_fits t e) (ap (vint
-      w64) (one_more t.at)) tt (tt, after-fits t e) $
+      keep ! (2 ∷ 3 ∷ 0 ∷ 4 ∷ 5 ∷ []) $ operates_last ! (vint w64 (suc t.at)) refl refl (next_fits t e) (ap (vint
+      w64) (one_more t.at)) tt (tt, after_fits t e) $
       again (L.after _ _ _ _ _ _ _ _ law t no-swing (below t e) asks.0 (r, ws.1.1.0) (λ i.
       (said.state i, said.counts i)) (is, l ∙ t.real.1)) _ refl (L.less _ _ _ _ _ _ _ _ law t no-swing (below t e)
       asks.0))))))
-      (λ t e. let whole = L.folded-all _ _ _ _ _ _ _ _ law t (nltb→le t.at n (subst (λ (u : Bool). T
+      (λ t e. let whole = L.folded_all _ _ _ _ _ _ _ _ law t (nltb→le t.at n (subst (λ (u : Bool). T
       (not u)) (sym e) tt)) in execs ! $ move ! (1 ∷ 3 ∷ []) $
       shuts_slice ! tt S.the_row q xs a.0.ptr.0 a.0.ptr.1 $ move ! (2 ∷ 3 ∷ []) $
       closes ! tt u32 cs t.acc.1 t.real.1 $ move ! (2 ∷ 1 ∷ []) $ tokens ! κs qs $
       -- [the tokens; what says the last counts; the locals]
-      move ! (1 ∷ []) $ only-last ! 3 $ keep ! (2 ∷ 1 ∷ 0 ∷ []) $ returns ! refl $
+      move ! (1 ∷ []) $ only_last ! 3 $ keep ! (2 ∷ 1 ∷ 0 ∷ []) $ returns ! refl $
       ends t.acc.0 (tt ▸ tt ▸ tt ▸ t.acc.1 ▸ tt) t.real.0 (record
       { state = ap (λ (u : Both). u.0) whole; counts = ap (λ (u : Both). u.1) whole }))
       (L.starts one May each MayAll Real n xs (a.1.1.0, cs.now) asks.1 (are.1.1.0, refl)))

@@ -20,10 +20,10 @@ use Rattle.walks.proofs.Lend.{array_row, row_room, array_typed}
 use Rattle.walks.proofs.Script.{none, some, Ura, full_share, named, w32, w64, Val, vint, SProp, emp, id⊢, GName, Memory}
 use Rattle.walks.proofs.Script.{Routine, Tables, Lfts, Shares, Fun, fact_i, Item, ‵, ◌⊛◌, ◌$◌, ! }
 use Rattle.walks.proofs.Script.{move, keep, drop, use1, split, fsplit, fjoin, Is, RefT, slice_val, Room, ShrSlice}
-use Rattle.walks.proofs.Script.{shr_slice_copy, row, nothing, Args, cited, asked, Knows, calls-on, calls-on-last}
-use Rattle.walks.proofs.Script.{settled, calls-equal, Argument, made, had, uint, kinds, values-in, lends, loan-ends}
-use Rattle.walks.proofs.Script.{Values, sets, returns, sends-away, brings-back, lent, shared, execs, ◌▸◌, whiles, Valid}
-use Rattle.walks.proofs.Script.{Asks, Shows, Ends, Begun, meets, token, token-of, tokens, tokens-of}
+use Rattle.walks.proofs.Script.{shr_slice_copy, row, nothing, Args, cited, asked, Knows, calls_on, calls_on_last}
+use Rattle.walks.proofs.Script.{settled, calls_equal, Argument, made, had, uint, kinds, values-in, lends, loan_ends}
+use Rattle.walks.proofs.Script.{Values, sets, returns, sends_away, brings_back, lent, shared, execs, ◌▸◌, whiles, Valid}
+use Rattle.walks.proofs.Script.{Asks, Shows, Ends, Begun, meets, token, token_of, tokens, tokens_of}
 use Rattle.swings.specs.declared.Swing.{Swing}
 use Rattle.swings.specs.contracts.Swing as S
 use Rattle.blur.specs.Median.{length_of}
@@ -32,7 +32,7 @@ use Rattle.blur.specs.Select.{Narrows, SelectAsked}
 use Rattle.blur.specs.declared.select.Pass.{Pass}
 use Rattle.blur.specs.declared.length.LengthAnswer.TheVariants.{Length}
 use Rattle.blur.proofs.PlainData.{state, answer}
-use Rattle.blur.proofs.Selected.{passes-number, passes-length}
+use Rattle.blur.proofs.Selected.{passes_number, passes_length}
 use Rattle.blur.proofs.Selecting as L
 use Rattle.blur.specs.contracts.select.Pass as P
 use Rattle.blur.proofs.select.Pass.TheLaws as P'
@@ -107,8 +107,8 @@ module _ {M : Type 1} {𝓤 : Ura M} (𝓛 : Logic 𝓤) (mem : Memory → SProp
   walk : Begun arguments answer 𝓛 𝓣 code.function κs qs a bs Kf
   walk =
       assigns ! (rep ! size (lit ! tt)) (from ! (stop !)) (sets ! 4 _ tt tt (array_typed 𝓛 w32 size 0 (lit<
-      tt))) $ execs ! $ sends-away ! $ move ! (1 ∷ []) $ fsplit ! $ array_row ! w32 size 0 (bs 4) (lit< tt) $ move ! (4
-      ∷ []) $ fsplit ! $ move ! (5 ∷ []) $ token-of ! κs qs $ keep ! (5 ∷ 3 ∷ 0 ∷ 1 ∷ []) $
+      tt))) $ execs ! $ sends_away ! $ move ! (1 ∷ []) $ fsplit ! $ array_row ! w32 size 0 (bs 4) (lit< tt) $ move ! (4
+      ∷ []) $ fsplit ! $ move ! (5 ∷ []) $ token_of ! κs qs $ keep ! (5 ∷ 3 ∷ 0 ∷ 1 ∷ []) $
       whiles ! 𝓣 (λ t. t.acc.0.left) σ Γ 6 7 (λ t. ltb 0 t.acc.0.left) _ (λ t. refl) (λ t. tt)
       (λ t e q' again. let c = t.acc.0 in let xs = a.0.now in execs ! $ move ! (1 ∷ []) $
       -- the counts are lent to `pass`, with a copy of the records
@@ -116,43 +116,43 @@ module _ {M : Type 1} {𝓤 : Ura M} (𝓛 : Logic 𝓤) (mem : Memory → SProp
       use1 𝓛 (Records ⊛ Records) ((shr_slice_copy 𝓛 (named 0) κs.0 S.the_row).twice a.0 _) $ split ! $
       nothing ! $ move ! (3 ∷ 0 ∷ []) $ fjoin ! $ move ! (1 ∷ 0 ∷ []) $ fjoin ! $ move ! (5 ∷ 2 ∷ []) $
       tokens ! (κs.0 ▸ α ∷ [] ▸ tt) (qs.0 ▸ full_share ▸ tt) $ move ! (4 ∷ 0 ∷ 1 ∷ []) $
-      calls-on ! 𝓣 2 (had (shared 0 tt S.the_row) ∷ made (uint w64) ∷ made state ∷ had (lent 1 tt u32) ∷ []) state
+      calls_on ! 𝓣 2 (had (shared 0 tt S.the_row) ∷ made (uint w64) ∷ made state ∷ had (lent 1 tt u32) ∷ []) state
       (pass.clauses 𝓛 mem run) passes (κs.0 ▸ α ∷ [] ▸ tt) (qs.0 ▸ full_share ▸ tt)
       (a.0 ▸ c.reach ▸ c ▸ counts δ t.acc.1 ▸ tt) tt
-      ((LL.owed P.the_type P'.the_laws c _ t.real).1.1.0 ▸ t.real ▸ tt) (fact_i 𝓤 _ (emp 𝓤) (L.shown-within Real xs
+      ((LL.owed P.the_type P'.the_laws c _ t.real).1.1.0 ▸ t.real ▸ tt) (fact_i 𝓤 _ (emp 𝓤) (L.shown_within Real xs
       a.1.0 asks.1 t (more t e) ▸ L.passable Real xs a.1.0 asks.1 t (more t e)))
       (ap (λ (k : ℕ). some (slice_val a.0.ptr (length xs) ∷ vint w64 c.reach ∷ state.val c ∷ slice_val (bs 4, 0) k
       ∷
       [])) (sym t.sized)) tt refl (λ r ws. Passes (take c.reach xs) c t.acc.1 ws.1.1.1.0 r)
       (λ r ws. id⊢ 𝓤 _) (λ r₁ ws₁ e₁ is₁. let cs₁ = ws₁.1.1.1.0 in move ! (1 ∷ []) $
-      tokens-of ! (κs.0 ▸ α ∷ [] ▸ tt) (qs.0 ▸ full_share ▸ tt) $ move ! (3 ∷ []) $ fsplit ! $ drop ! $ fsplit ! $
+      tokens_of ! (κs.0 ▸ α ∷ [] ▸ tt) (qs.0 ▸ full_share ▸ tt) $ move ! (3 ∷ []) $ fsplit ! $ drop ! $ fsplit ! $
       drop ! $ fsplit ! $ drop ! $ fsplit ! $ move ! (3 ∷ 6 ∷ 0 ∷ []) $
-      loan-ends ! tt u32 cs₁ (length t.acc.1) (bs 4) 0 α δ (λ len₁.
+      loan_ends ! tt u32 cs₁ (length t.acc.1) (bs 4) 0 α δ (λ len₁.
       -- [the counts; true; a token; the locals; the records]: the counts are lent to the choice of a digit
       keep ! (3 ∷ 0 ∷ 2 ∷ 4 ∷ []) $ execs ! $ move ! (1 ∷ []) $
       lends ! tt u32 (named 0) cs₁ (bs 4) 0 (roomy cs₁ (len₁ ∙ t.sized)) (λ β ε. nothing ! $ move ! (1 ∷ 0 ∷ []) $
       fjoin ! $ move ! (1 ∷ []) $ token ! (β ∷ [] ▸ tt) (full_share ▸ tt) $ move ! (3 ∷ 0 ∷ 1 ∷ []) $
-      calls-on-last ! 𝓣 1 (made state ∷ had (lent 0 tt u32) ∷ []) state (narrow.clauses 𝓛 mem run) narrows
+      calls_on_last ! 𝓣 1 (made state ∷ had (lent 0 tt u32) ∷ []) state (narrow.clauses 𝓛 mem run) narrows
       (β ∷ [] ▸ tt) (full_share ▸ tt) (r₁ ▸ counts ε cs₁ ▸ tt) tt (is₁ ▸ tt)
-      (fact_i 𝓤 _ (emp 𝓤) (L.narrowable-after Real xs a.1.0 asks.1 t (more t e) (r₁, cs₁) e₁))
+      (fact_i 𝓤 _ (emp 𝓤) (L.narrowable_after Real xs a.1.0 asks.1 t (more t e) (r₁, cs₁) e₁))
       (ap (λ (k : ℕ). some (state.val r₁ ∷ slice_val (bs 4, 0) k ∷ [])) (sym (len₁ ∙ t.sized)))
       (λ r ws. Narrows r₁ cs₁ ws.1.0 r) (λ r ws. id⊢ 𝓤 _) (λ r₂ ws₂ e₂ is₂. let cs₂ = ws₂.1.0 in
-      move ! (1 ∷ []) $ token-of ! (β ∷ [] ▸ tt) (full_share ▸ tt) $ move ! (2 ∷ []) $ fsplit ! $ drop ! $ fsplit ! $
-      move ! (2 ∷ 4 ∷ 0 ∷ []) $ loan-ends ! tt u32 cs₂ (length cs₁) (bs 4) 0 β ε (λ len₂.
+      move ! (1 ∷ []) $ token_of ! (β ∷ [] ▸ tt) (full_share ▸ tt) $ move ! (2 ∷ []) $ fsplit ! $ drop ! $ fsplit ! $
+      move ! (2 ∷ 4 ∷ 0 ∷ []) $ loan_ends ! tt u32 cs₂ (length cs₁) (bs 4) 0 β ε (λ len₂.
       keep ! (2 ∷ 0 ∷ 3 ∷ 4 ∷ []) $ settled ! state r₂ tt refl is₂ $
       again (L.after Real xs a.1.0 asks.1 t (more t e) (r₁, cs₁) e₁ (r₂, cs₂) e₂ is₂ (len₂ ∙ len₁ ∙ t.sized)) _
       refl
-      (L.less-after Real xs a.1.0 asks.1 t (more t e) (r₁, cs₁) e₁ (r₂, cs₂) e₂))))))))
+      (L.less_after Real xs a.1.0 asks.1 t (more t e) (r₁, cs₁) e₁ (r₂, cs₂) e₂))))))))
       (λ t e. let m = a.1.1.0 in
-      calls-equal ! 𝓣 (state ∷ uint w64 ∷ []) answer (found.clauses 𝓛 mem run) founds (t.acc.0 ▸ m ▸ tt) tt
+      calls_equal ! 𝓣 (state ∷ uint w64 ∷ []) answer (found.clauses 𝓛 mem run) founds (t.acc.0 ▸ m ▸ tt) tt
       (t.real ▸ are.1.1.0 ▸ tt)
-      (fact_i 𝓤 _ (emp 𝓤) (passes-number ss t.acc.0 t.known asks.1.widths (off t e))) refl tt refl
+      (fact_i 𝓤 _ (emp 𝓤) (passes_number ss t.acc.0 t.known asks.1.widths (off t e))) refl tt refl
       (Length (answered t.acc.0 m)) (λ r _. id⊢ 𝓤 _) (λ is. move ! (1 ∷ []) $
       row_room ! w32 size (bs 4) t.acc.1 t.sized $ nothing ! $ move ! (1 ∷ 0 ∷ []) $ fjoin ! $
-      move ! (1 ∷ 0 ∷ []) $ brings-back ! $ move ! (1 ∷ []) $ token ! κs qs $ nothing ! $ nothing ! $ fjoin ! $
+      move ! (1 ∷ 0 ∷ []) $ brings_back ! $ move ! (1 ∷ []) $ token ! κs qs $ nothing ! $ nothing ! $ fjoin ! $
       nothing ! $ fjoin ! $ nothing ! $ fjoin ! $ keep ! (2 ∷ 1 ∷ 0 ∷ []) $ returns ! refl $
       ends (Length (answered t.acc.0 m)) (tt ▸ tt ▸ tt ▸ tt) is
-      (ap Length (passes-length ss t.acc.0 m t.known asks.1.widths (off t e)))))
+      (ap Length (passes_length ss t.acc.0 m t.known asks.1.widths (off t e)))))
       (L.starts Real a.0.now a.1.0 asks.1 are.1.0)
 
 pub select-spec : {M : Type 1} → statement M

@@ -5,14 +5,14 @@ use Prim.Native.Nat.{◌≤◌, ◌-◌}
 use native.Mathlib.Omega.{arith}
 use borrow.Author.Rules.{rules}
 use lib.ListN.{length, drop}
-use Rattle.blur.specs.Select.{pickFrom}
-use Rattle.blur.proofs.Steps.{pick-here, pick_next, pick_end}
+use Rattle.blur.specs.Select.{pick_from}
+use Rattle.blur.proofs.Steps.{pick_here, pick_next, pick_end}
 use Rattle.blur.proofs.select.choose.Statement.{statement}
 use Rattle.blur.proofs.select.choose.Tie as tie
 
 abbrev invariant-loop : tie.invariant-loop
 invariant-loop counts place digit₀ left₀ digit left =
-    (digit ≤ length counts) × (pickFrom (drop digit counts) digit left ≡ pickFrom counts 0 place)
+    (digit ≤ length counts) × (pick_from (drop digit counts) digit left ≡ pick_from counts 0 place)
 
 abbrev decreases-loop : tie.decreases-loop
 decreases-loop counts place digit₀ left₀ digit left = length counts - digit
@@ -27,7 +27,7 @@ shared-slice-read-count : tie.Need-shared-slice-read-count invariant-loop decrea
 shared-slice-read-count c = search rules
 
 returns : tie.Need-returns invariant-loop decreases-loop
-returns c = pick-here _ _ _ c.before.before.loop-test.true c.if1.true
+returns c = pick_here _ _ _ c.before.before.loop-test.true c.if1.true
     ∙ c.before.before.before.loop.invariant.1
 
 add-digit : tie.Need-overflow-add-digit invariant-loop decreases-loop

@@ -4,7 +4,7 @@ use Prim.Native.Nat.{◌+◌, ◌<◌}
 use native.Mathlib.Omega.{arith}
 use lib.ListN.{length}
 use borrow.Author.Rules.{rules}
-use Rattle.blur.proofs.Steps.{pick-lt, narrows}
+use Rattle.blur.proofs.Steps.{pick_lt, narrows}
 use Rattle.blur.proofs.select.narrow.Statement.{statement}
 use Rattle.blur.proofs.select.narrow.Tie as tie
 
@@ -44,7 +44,7 @@ prefix-of-requires c κs =
     let s = p.before.before.before in
     let digit : o.choose.result.digit < 0 + length s.args.counts.now =
     rw o.choose.ensures
-    (pick-lt s.args.counts.now 0 p.place_of.result (omega (arith, s.requires.digits))) in
+    (pick_lt s.args.counts.now 0 p.place_of.result (omega (arith, s.requires.digits))) in
     (omega (arith, digit, s.requires.digits), s.requires.room, s.requires.below)
 
 same_length : tie.Need-same-length

@@ -3,7 +3,7 @@ use mathlib.Core.Path.{refl}
 use lib.IntN.{pos, ◌*ℤ◌}
 use mir.Syntax.{w32, w64}
 use mir.ValLaws.{to_z-of_z}
-use Rattle.blur.proofs.Steps.{wider, twice-fits}
+use Rattle.blur.proofs.Steps.{wider, twice_fits}
 use Rattle.blur.proofs.select.stays.Statement.{statement}
 use Rattle.blur.proofs.select.stays.Tie as tie
 
@@ -15,7 +15,7 @@ cast-result-2 c = rw (to_z-of_z w32 c.args.swing c.ranges.swing) (wider c.ranges
 
 mul-result : tie.Need-overflow-mul-result
 mul-result c = rw (to_z-of_z w32 c.args.swing c.ranges.swing, to_z-of_z w64 c.args.swing (wider c.ranges.swing))
-    (twice-fits c.ranges.swing)
+    (twice_fits c.ranges.swing)
 
 returns : tie.Need-returns
 returns c =
@@ -26,7 +26,7 @@ returns c =
       to_z-of_z w32 c.args.swing c.ranges.swing,
       to_z-of_z w64 c.args.swing
           (wider c.ranges.swing),
-      to_z-of_z w64 (pos 2 *ℤ c.args.swing) (twice-fits c.ranges.swing),
+      to_z-of_z w64 (pos 2 *ℤ c.args.swing) (twice_fits c.ranges.swing),
     )
     refl
 

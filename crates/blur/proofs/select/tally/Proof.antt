@@ -7,7 +7,7 @@ use native.Mathlib.Omega.{arith}
 use lib.Dec.{eqb}
 use borrow.Author.Rules.{rules}
 use Rattle.blur.specs.Median.{stays}
-use Rattle.blur.proofs.Steps.{stays_of, cond-le, one-step}
+use Rattle.blur.proofs.Steps.{stays_of, cond_le, one_step}
 use Rattle.blur.proofs.select.tally.Statement.{statement}
 use Rattle.blur.proofs.select.tally.Tie as tie
 
@@ -35,7 +35,7 @@ one-is c =
     (record { sfits = omega (arith, c.before.struct-told2.given) }))
 
 one-le : (c : tie.After-counted) → c.counted.result ≤ 1
-one-le c = rw (one-is c) (cond-le (test c))
+one-le c = rw (one-is c) (cond_le (test c))
 
 mul-counts : tie.Need-overflow-mul-counts
 mul-counts c = search rules
@@ -65,7 +65,7 @@ returns : tie.Need-returns
 returns c =
     let k = c.before.before in
     let h = k.before.before.before in
-    one-step _ _ _ h.high-digits.result k.counted.result h.high-digits.ensures (one-is k)
+    one_step _ _ _ h.high-digits.result k.counted.result h.high-digits.ensures (one-is k)
 
 pub tally-spec : {M : Type 1} → statement M
 tally-spec =

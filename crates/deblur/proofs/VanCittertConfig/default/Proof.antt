@@ -1,12 +1,12 @@
 -- `VanCittertConfig::default` meets its contract. Assumes nothing.
 use mathlib.Core.Path.{refl}
 use lib.Ieee.{of_bits}
-use Rattle.deblur.specs.Settings.{vanCittertDefault}
+use Rattle.deblur.specs.Settings.{van_cittert_default}
 use Rattle.deblur.proofs.VanCittertConfig.default.Statement.{statement}
 use Rattle.deblur.proofs.VanCittertConfig.default.Tie as tie
 
 returns : tie.Need-returns
-unfolding of_bits vanCittertDefault
+unfolding of_bits van_cittert_default
 returns c = refl
 
 pub default-spec : {M : Type 1} → statement M

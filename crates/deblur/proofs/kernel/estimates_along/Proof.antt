@@ -1,7 +1,7 @@
 -- `deblur::kernel::estimates_along` meets its contract: the lines' at the stride of rows.
 use native.Mathlib.Omega.{arith}
-use Rattle.deblur.proofs.Along.{source-asked, along-painted}
-use Rattle.deblur.proofs.RowStride.{walked-tight}
+use Rattle.deblur.proofs.Along.{source_asked, along_painted}
+use Rattle.deblur.proofs.RowStride.{walked_tight}
 use borrow.Author.Rules.{rules}
 use Rattle.deblur.proofs.kernel.estimates_along.Statement.{statement}
 use Rattle.deblur.proofs.kernel.estimates_along.Tie as tie
@@ -15,8 +15,8 @@ estimate-lines-into-requires c κs =
     let s = row.before.before in
     rw row.row-stride.ensures
     (record {
-      source = source-asked s.requires.0 (omega (arith, s.well-formed.0.1));
-      destination = walked-tight s.requires.0.laid s.requires.1;
+      source = source_asked s.requires.0 (omega (arith, s.well-formed.0.1));
+      destination = walked_tight s.requires.0.laid s.requires.1;
     })
 
 same_length : tie.Need-same-length
@@ -31,7 +31,7 @@ returns c =
     let row = lines.before.before.before in
     let s = row.before.before in
     let a = s.args in
-    along-painted (λ v. v) a.«data».now a.width a.height a.stride _ a.direction a.kernel
+    along_painted (λ v. v) a.«data».now a.width a.height a.stride _ a.direction a.kernel
     (rw row.row-stride.ensures at lines.estimate-lines-into.ensures)
 
 pub estimates-along-spec : {M : Type 1} → statement M

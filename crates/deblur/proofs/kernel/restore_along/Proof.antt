@@ -1,9 +1,9 @@
 -- `deblur::kernel::restore_along` meets its contract: the lines' at the strides of rows.
 use native.Mathlib.Omega.{arith}
-use Rattle.numbers.specs.Scalar.{clampByte}
-use Rattle.deblur.specs.Lines.{kernelEstimate}
-use Rattle.deblur.proofs.Along.{source-asked, along-painted}
-use Rattle.deblur.proofs.RowStride.{walked, painted-stride}
+use Rattle.numbers.specs.Scalar.{clamp_byte}
+use Rattle.deblur.specs.Lines.{kernel_estimate}
+use Rattle.deblur.proofs.Along.{source_asked, along_painted}
+use Rattle.deblur.proofs.RowStride.{walked, painted_stride}
 use borrow.Author.Rules.{rules}
 use Rattle.deblur.proofs.kernel.restore_along.Statement.{statement}
 use Rattle.deblur.proofs.kernel.restore_along.Tie as tie
@@ -21,7 +21,7 @@ restore-lines-into-requires c κs =
     let s = row.before.before.before in
     rw (row.row-stride.ensures, dst_row.row-stride2.ensures)
     (record {
-      source = source-asked s.requires.0 (omega (arith, s.well-formed.0.1));
+      source = source_asked s.requires.0 (omega (arith, s.well-formed.0.1));
       destination = walked s.requires.1 (omega (arith, s.well-formed.1.1.1.1.0.1));
     })
 
@@ -40,10 +40,10 @@ returns c =
     let a = s.args in
     let painted = rw (row.row-stride.ensures, dst_row.row-stride2.ensures) at lines.restore-lines-into.ensures
     in
-    painted-stride (λ x y. clampByte (kernelEstimate a.«data».now a.width a.height a.stride a.direction
+    painted_stride (λ x y. clamp_byte (kernel_estimate a.«data».now a.width a.height a.stride a.direction
     a.kernel x y)) a.width a.height a.dst-stride
-    s.requires.1.width-pos s.requires.1.stride-least
-    (along-painted clampByte a.«data».now a.width a.height a.stride _ a.direction a.kernel
+    s.requires.1.width_pos s.requires.1.stride_least
+    (along_painted clamp_byte a.«data».now a.width a.height a.stride _ a.direction a.kernel
     painted)
 
 pub restore-along-spec : {M : Type 1} → statement M

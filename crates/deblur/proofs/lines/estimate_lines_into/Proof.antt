@@ -5,8 +5,8 @@ use mathlib.Core.Path.{◌≡◌, refl, ◌∙◌}
 use borrow.Author.Rules.{rules}
 use lib.IntN.{pos}
 use lib.ListN.{length}
-use Rattle.deblur.proofs.LineByLine.{LinesTo, lines-begun, lines-done, Turn, turn-asked, turn-restored}
-use Rattle.deblur.proofs.LineByLine.{turn-first, turn-scatter, turn-further}
+use Rattle.deblur.proofs.LineByLine.{LinesTo, lines_begun, lines_done, Turn, turn_asked, turn_restored}
+use Rattle.deblur.proofs.LineByLine.{turn_first, turn_scatter, turn_further}
 use Rattle.deblur.proofs.lines.estimate_lines_into.Statement.{statement}
 use Rattle.deblur.proofs.lines.estimate_lines_into.Tie as tie
 
@@ -28,7 +28,7 @@ loop-holds : tie.Need-loop-init invariant-loop decreases-loop
 loop-holds c =
     let a = c.before.before.before.args in (
       omega arith,
-      lines-begun (λ v. v) a.«data».now a.width a.height a.stride a.dst-stride
+      lines_begun (λ v. v) a.«data».now a.width a.height a.stride a.dst-stride
           a.direction a.kernel,
       refl,
     )
@@ -43,7 +43,7 @@ module _ (c : tie.At-loop invariant-loop decreases-loop) where
 restore-scan-line-requires : tie.Need-restore-scan-line-requires invariant-loop decreases-loop
 restore-scan-line-requires c κs =
     let l = c.before.before in
-    turn-asked (start l).args.direction (start l).requires (counted l).line-count.ensures c.before.loop-test.true
+    turn_asked (start l).args.direction (start l).requires (counted l).line_count.ensures c.before.loop-test.true
     l.loop.invariant.2
 
 -- a line that is restored
@@ -60,21 +60,21 @@ module _ (c : tie.After-restore-scan-line invariant-loop decreases-loop) where
       a.kernel head.loop.k head.before.place-step.result
       c.restore-scan-line.new.1.1.1.1.1.1.1.0 c.restore-scan-line.result
   turn =
-      turn-restored (start head).pre (counted head).line-count.ensures c.before.before.loop-test.true
+      turn_restored (start head).pre (counted head).line_count.ensures c.before.before.loop-test.true
       head.before.place-step.ensures kept c.restore-scan-line.ensures
 
 abbrev restored : tie.After-struct-known invariant-loop decreases-loop → tie.After-restore-scan-line invariant-loop decreases-loop
 restored c = c.before.before.before.before
 
 mul-scatter-i32 : tie.Need-overflow-mul-scatter-i32 invariant-loop decreases-loop
-mul-scatter-i32 c = omega (arith, turn-first (turn (restored c)))
+mul-scatter-i32 c = omega (arith, turn_first (turn (restored c)))
 
 add-scatter-i32 : tie.Need-overflow-add-scatter-i32 invariant-loop decreases-loop
-add-scatter-i32 c = omega (arith, turn-first (turn (restored c.before)))
+add-scatter-i32 c = omega (arith, turn_first (turn (restored c.before)))
 
 scatter-i32-requires : tie.Need-scatter-i32-requires invariant-loop decreases-loop
 scatter-i32-requires c κs =
-    let r = restored c.before in turn-scatter (turn r) (head r).loop.inv.1.same_length
+    let r = restored c.before in turn_scatter (turn r) (head r).loop.inv.1.same_length
 
 add-k : tie.Need-overflow-add-k invariant-loop decreases-loop
 add-k c = omega arith
@@ -86,7 +86,7 @@ loop-again : tie.Need-loop-preserved invariant-loop decreases-loop
 loop-again c =
     let scattered = c.before in
     let r = restored scattered.before.before in
-    (omega arith, turn-further (turn r) (λ v. v) (head r).loop.inv.1 scattered.scatter-i32.ensures, kept r)
+    (omega arith, turn_further (turn r) (λ v. v) (head r).loop.inv.1 scattered.scatter-i32.ensures, kept r)
 
 same_length : tie.Need-same-length invariant-loop decreases-loop
 same_length c = c.before.loop.invariant.1.same_length
@@ -98,9 +98,9 @@ returns : tie.Need-returns invariant-loop decreases-loop
 returns c =
     let l = c.before in
     let a = (start l).args in
-    let e : l.loop.k ≡ (counted l).line-count.result = omega arith in
-    lines-done (λ v. v) a.«data».now a.width a.height a.stride a.dst-stride a.direction a.kernel
-    (start l).requires.destination.laid (e ∙ (counted l).line-count.ensures) l.loop.invariant.1
+    let e : l.loop.k ≡ (counted l).line_count.result = omega arith in
+    lines_done (λ v. v) a.«data».now a.width a.height a.stride a.dst-stride a.direction a.kernel
+    (start l).requires.destination.laid (e ∙ (counted l).line_count.ensures) l.loop.invariant.1
 
 pub estimate-lines-into-spec : {M : Type 1} → statement M
 estimate-lines-into-spec =

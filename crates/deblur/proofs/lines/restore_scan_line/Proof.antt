@@ -6,7 +6,7 @@ use mathlib.Core.Path.{refl}
 use borrow.Author.Rules.{rules}
 use lib.ListN.{length}
 use Rattle.raster.specs.Lines.{byte_of}
-use Rattle.deblur.proofs.LineByLine.{line-start, line-asked, line-estimates}
+use Rattle.deblur.proofs.LineByLine.{line_start, line_asked, line_estimates}
 use Rattle.deblur.proofs.lines.restore_scan_line.Statement.{statement}
 use Rattle.deblur.proofs.lines.restore_scan_line.Tie as tie
 
@@ -18,7 +18,7 @@ first : (c : tie.After-line-at) → let a = c.before.before.args in byte_of a.st
     c.line_at_lem.result.row < length a.«data».now
 first c =
     let s = c.before.before in
-    line-start s.requires.0.walked.laid s.args.direction s.args.k s.requires.1 c.line_at_lem.result
+    line_start s.requires.0.walked.laid s.args.direction s.args.k s.requires.1 c.line_at_lem.result
     c.line_at_lem.ensures _ refl
 
 mul-start : tie.Need-overflow-mul-start
@@ -34,7 +34,7 @@ restore-line-requires : tie.Need-restore-line-requires
 restore-line-requires c κs =
     let s = c.before.before.before.before.before.before in
     let l = c.before.before.before.before in (
-      line-asked s.requires.0.walked.laid s.args.direction s.args.k s.requires.1 l.line_at_lem.result
+      line_asked s.requires.0.walked.laid s.args.direction s.args.k s.requires.1 l.line_at_lem.result
           l.line_at_lem.ensures _ c.before.place-step.ensures _ s.requires.0.room,
       s.requires.0.taken,
     )
@@ -47,9 +47,9 @@ returns c =
     let s = c.before.before.before.before.before.before.before.before in
     let l = c.before.before.before.before.before.before in
     record {
-      line-is = l.line_at_lem.ensures;
+      line_is = l.line_at_lem.ensures;
       estimates =
-          line-estimates s.requires.0.walked.laid s.args.direction s.args.k s.requires.1 l.line_at_lem.result
+          line_estimates s.requires.0.walked.laid s.args.direction s.args.k s.requires.1 l.line_at_lem.result
           l.line_at_lem.ensures _ c.before.before.before.place-step.ensures
           s.args.«data».now s.args.kernel c.before.restore-line.new.1.1.1.1.1.0
           c.before.restore-line.ensures;

@@ -7,7 +7,7 @@ use mir.ValLaws.{to_z-of_z}
 use lib.IntN.{pos}
 use lib.ListN.{length}
 use mathlib.Core.Path.{◌≡◌}
-use Rattle.deblur.proofs.Scattering.{ScatteredTo, scatter-none, scatter-next, place_in}
+use Rattle.deblur.proofs.Scattering.{ScatteredTo, scatter_none, scatter_next, place_in}
 use Rattle.deblur.proofs.scatter.scatter_i32.Statement.{statement}
 use Rattle.deblur.proofs.scatter.scatter_i32.Tie as tie
 
@@ -18,7 +18,7 @@ abbrev decreases-loop : tie.decreases-loop
 decreases-loop scratch n dst₀ start step i₀ dst i = n - i
 
 loop-holds : tie.Need-loop-init invariant-loop decreases-loop
-loop-holds c = let a = c.args in (omega arith, scatter-none (λ v. v) a.n a.scratch.now a.start a.step)
+loop-holds c = let a = c.args in (omega arith, scatter_none (λ v. v) a.n a.scratch.now a.start a.step)
 
 add-dst : tie.Need-overflow-add-dst invariant-loop decreases-loop
 add-dst c = omega arith
@@ -56,7 +56,7 @@ loop-again : tie.Need-loop-preserved invariant-loop decreases-loop
 loop-again c =
     let s = c.before.before.before in (
       omega arith,
-      scatter-next (λ v. v) s.args.n s.args.scratch.now s.args.start s.args.step s.requires
+      scatter_next (λ v. v) s.args.n s.args.scratch.now s.args.start s.args.step s.requires
           c.before.loop-test.true _ (to_z-of_z w32 _ (record { sfits = c.dst.given }))
           c.before.before.loop.invariant.1,
     )

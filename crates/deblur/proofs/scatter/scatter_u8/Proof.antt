@@ -7,21 +7,21 @@ use mir.Val.{to_z, of_z}
 use mir.ValLaws.{to_z-of_z}
 use lib.ListN.{length}
 use mathlib.Core.Path.{◌≡◌, ap, ◌∙◌}
-use Rattle.numbers.specs.Scalar.{clampByte}
+use Rattle.numbers.specs.Scalar.{clamp_byte}
 use Rattle.line.specs.Kernel.{line_at}
-use Rattle.deblur.proofs.Scattering.{ScatteredTo, scatter-none, scatter-next, place_in}
+use Rattle.deblur.proofs.Scattering.{ScatteredTo, scatter_none, scatter_next, place_in}
 use Rattle.deblur.proofs.scatter.scatter_u8.Statement.{statement}
 use Rattle.deblur.proofs.scatter.scatter_u8.Tie as tie
 
 abbrev invariant-loop : tie.invariant-loop
-invariant-loop scratch n dst₀ start step i₀ dst i = (i ≤ n) × ScatteredTo 0 clampByte i n scratch start step dst₀ dst
+invariant-loop scratch n dst₀ start step i₀ dst i = (i ≤ n) × ScatteredTo 0 clamp_byte i n scratch start step dst₀ dst
 
 abbrev decreases-loop : tie.decreases-loop
 decreases-loop scratch n dst₀ start step i₀ dst i = n - i
 
 loop-holds : tie.Need-loop-init invariant-loop decreases-loop
 loop-holds c = let a = c.before.args in
-    (omega arith, scatter-none clampByte a.n a.scratch.now a.start a.step)
+    (omega arith, scatter_none clamp_byte a.n a.scratch.now a.start a.step)
 
 add-clamp-u8 : tie.Need-overflow-add-clamp-u8 invariant-loop decreases-loop
 add-clamp-u8 c = omega arith
@@ -64,9 +64,9 @@ loop-again c =
     let y = line_at s.args.n s.args.scratch.now c.before.before.before.loop.i in
     let e : to_z w32 (of_z w32 y) ≡ y = to_z-of_z w32 y (record { sfits = c.before.clamp-u8-arg.given }) in (
       omega arith,
-      scatter-next clampByte s.args.n s.args.scratch.now s.args.start s.args.step s.requires
+      scatter_next clamp_byte s.args.n s.args.scratch.now s.args.start s.args.step s.requires
           c.before.before.loop-test.true _
-          (c.clamp-u8.ensures ∙ ap clampByte e)
+          (c.clamp-u8.ensures ∙ ap clamp_byte e)
           c.before.before.before.loop.invariant.1,
     )
 

@@ -6,11 +6,11 @@ use native.Mathlib.Nat.{add-sub_cancel_left}
 use native.Mathlib.Omega.{arith}
 use lib.ListN.{length, take, drop}
 use Rattle.numbers.specs.Written.{Painted}
-use Rattle.numbers.proofs.Places.{pixels-none}
+use Rattle.numbers.proofs.Places.{pixels_none}
 use Rattle.numbers.proofs.Written.{written_none}
 use Rattle.image.specs.Picture.{pixel}
 use Rattle.image.proofs.Refusal.{row_within}
-use Rattle.image.proofs.Rows.{row-part-length, row-part-at, painted-row, copied-written}
+use Rattle.image.proofs.Rows.{row_part_length, row_part_at, painted_row, copied_written}
 use Rattle.image.proofs.kernel.copy_rows.Statement.{statement}
 use Rattle.image.proofs.kernel.copy_rows.Tie as tie
 
@@ -22,7 +22,7 @@ abbrev decreases-loop : tie.decreases-loop
 decreases-loop «data» width height stride dst₀ dst-stride y₀ dst y = height - y
 
 loop-holds : tie.Need-loop-init invariant-loop decreases-loop
-loop-holds c = (omega arith, written_none (λ j _. pixels-none _ _ j))
+loop-holds c = (omega arith, written_none (λ j _. pixels_none _ _ j))
 
 -- the row's places in the source and in the destination
 module _ (c : tie.In-loop invariant-loop decreases-loop) where
@@ -68,10 +68,10 @@ module _ (c : tie.In-loop invariant-loop decreases-loop) where
       (drop (c.before.loop.y * (a c).args.dst-stride) c.before.loop.dst)
 
   from : length row ≡ (a c).args.width
-  from = row-part-length _ _ (a c).args.stride _ _ (add-sub_cancel_left _ _) (src-end c)
+  from = row_part_length _ _ (a c).args.stride _ _ (add-sub_cancel_left _ _) (src-end c)
 
   to : length place ≡ (a c).args.width
-  to = row-part-length _ _ (a c).args.dst-stride _ _ (add-sub_cancel_left _ _) (dst-end c)
+  to = row_part_length _ _ (a c).args.dst-stride _ _ (add-sub_cancel_left _ _) (dst-end c)
 
 add-copy-2 : tie.Need-overflow-add-copy-2 invariant-loop decreases-loop
 add-copy-2 c = omega (arith, dst-end c.before)
@@ -100,12 +100,12 @@ loop-again c =
     let start = a turn in
     let k = turn.before.loop in (
       omega arith,
-      painted-row (pixel start.args.«data».now start.args.stride) _ start.args.width
+      painted_row (pixel start.args.«data».now start.args.stride) _ start.args.width
           start.args.dst-stride k.y _ _ _ _ _ (from turn) (add-sub_cancel_left _ _)
-          start.pre.1.stride-least (dst-end turn)
-          (row-part-at start.args.«data».now _ start.args.stride k.y (wide turn) (add-sub_cancel_left _ _)
+          start.pre.1.stride_least (dst-end turn)
+          (row_part_at start.args.«data».now _ start.args.stride k.y (wide turn) (add-sub_cancel_left _ _)
           (src-end turn)) k.invariant.1
-          (copied-written (row turn) (place turn) (from turn ∙ sym (to turn)) c.before.before.copy.ensures.1),
+          (copied_written (row turn) (place turn) (from turn ∙ sym (to turn)) c.before.before.copy.ensures.1),
     )
 
 same_length : tie.Need-same-length invariant-loop decreases-loop

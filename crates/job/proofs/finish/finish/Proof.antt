@@ -2,8 +2,8 @@
 use borrow.Author.Rules.{rules}
 use mathlib.Core.Path.{refl, sym, ◌∙◌}
 use Rattle.image.specs.Call.{Gray8, gray8}
-use Rattle.job.specs.Parts.{lengthIn}
-use Rattle.job.proofs.Assembly.{finish-factor, finish-asked, finish-done, finish-refused}
+use Rattle.job.specs.Parts.{length_in}
+use Rattle.job.proofs.Assembly.{finish_factor, finish_asked, finish_done, finish_refused}
 use Rattle.job.proofs.finish.finish.Statement.{statement}
 use Rattle.job.proofs.finish.finish.Tie as tie
 
@@ -11,10 +11,10 @@ plan-job-requires : tie.Need-plan-job-requires
 plan-job-requires c κs =
     let l = c.before.before.requires.pictures.source in
     record {
-      some-columns = l.width-pos;
-      some-rows = l.height-pos;
-      few-columns = l.width-most;
-      few-rows = l.height-most;
+      some_columns = l.width_pos;
+      some_rows = l.height_pos;
+      few_columns = l.width_most;
+      few_rows = l.height_most;
     }
 
 enum-known-answer : tie.Need-enum-known-answer
@@ -39,7 +39,7 @@ line-kernel-requires : tie.Need-line-kernel-requires
 line-kernel-requires c κs =
     let s = start c in
     let a = s.args in
-    finish-factor a.direction (lengthIn a.decreases) (source s) (destination s) a.config s.pre
+    finish_factor a.direction (length_in a.decreases) (source s) (destination s) a.config s.pre
 
 restore-along-requires : tie.Need-restore-along-requires
 restore-along-requires c κs =
@@ -47,7 +47,7 @@ restore-along-requires c κs =
     let told = k.before in
     let s = start told in
     let a = s.args in
-    finish-asked a.direction (lengthIn a.decreases) (source s)
+    finish_asked a.direction (length_in a.decreases) (source s)
     (destination s) a.config _ s.pre
     (sym told.before.answer.given.1 ∙ (planned told).plan-job.ensures) k.line-kernel.ensures
 
@@ -67,7 +67,7 @@ returns c =
     let told = k.before in
     let s = start told in
     let a = s.args in
-    finish-done a.direction (lengthIn a.decreases) (source s)
+    finish_done a.direction (length_in a.decreases) (source s)
     (destination s) a.config _ _ _ _
     (sym told.before.answer.given.1 ∙ (planned told).plan-job.ensures) refl k.line-kernel.ensures
     r.restore-along.ensures
@@ -78,7 +78,7 @@ returns-2 c =
     let planned = known.before.before in
     let s = planned.before.before.before in
     let a = s.args in
-    finish-refused a.direction (lengthIn a.decreases) (source s)
+    finish_refused a.direction (length_in a.decreases) (source s)
     (destination s) a.config _ _
     (sym known.answer2.given.1 ∙ planned.plan-job.ensures)
 

@@ -3,10 +3,10 @@ use native.Mathlib.Omega.{arith}
 use borrow.Author.Rules.{rules}
 use mathlib.Core.Path.{◌≡◌, sym, ◌∙◌}
 use lib.ListN.{length}
-use Rattle.image.specs.Refusal.{pairRefusal}
-use Rattle.image.proofs.Pair.{laid-pair}
-use Rattle.image.proofs.Refusal.{area-most}
-use Rattle.job.proofs.Plans.{job-pictures, job-lent}
+use Rattle.image.specs.Refusal.{pair_refusal}
+use Rattle.image.proofs.Pair.{laid_pair}
+use Rattle.image.proofs.Refusal.{area_most}
+use Rattle.job.proofs.Plans.{job_pictures, job_lent}
 use Rattle.job.proofs.plan.job_refusal.Statement.{statement}
 use Rattle.job.proofs.plan.job_refusal.Tie as tie
 
@@ -16,10 +16,10 @@ pair-refusal-requires c κs = search rules
 returns : tie.Need-returns
 returns c =
     let e = c.before.pair-refusal.ensures in
-    e ∙ sym (job-pictures _ (λ z. c.if1.true (e ∙ z)))
+    e ∙ sym (job_pictures _ (λ z. c.if1.true (e ∙ z)))
 
 pictures-taken : (c : tie.Else1) → let a = c.before.before.before.args in
-    pairRefusal (length a.«data».now) a.width a.height a.stride a.dst-len a.dst-width
+    pair_refusal (length a.«data».now) a.width a.height a.stride a.dst-len a.dst-width
     a.dst-height a.dst-stride ≡ 0
 pictures-taken c = sym c.before.pair-refusal.ensures ∙ c.if1.false
 
@@ -27,10 +27,10 @@ iterated-refusal-requires : tie.Need-iterated-refusal-requires
 iterated-refusal-requires c κs = search rules
 
 scratch-needed-requires : tie.Need-scratch-needed-requires
-scratch-needed-requires c κs = let l = (laid-pair (pictures-taken c.before)).source in (l.width-most, l.height-most)
+scratch-needed-requires c κs = let l = (laid_pair (pictures-taken c.before)).source in (l.width_most, l.height_most)
 
 mul-pixels : tie.Need-overflow-mul-pixels
-mul-pixels c = omega (arith, area-most (laid-pair (pictures-taken c.before.before)).source)
+mul-pixels c = omega (arith, area_most (laid_pair (pictures-taken c.before.before)).source)
 
 lent-refusal-requires : tie.Need-lent-refusal-requires
 lent-refusal-requires c κs = search rules
@@ -45,7 +45,7 @@ returns-2 c =
     let iterated = needed.before in
     rw (iterated.iterated-refusal.ensures, lent.lent-refusal.ensures, needed.scratch-needed.ensures) at
     c.first-refusal.ensures
-    ∙ sym (job-lent _ (pictures-taken iterated.before))
+    ∙ sym (job_lent _ (pictures-taken iterated.before))
 
 pub job-refusal-spec : {M : Type 1} → statement M
 job-refusal-spec =

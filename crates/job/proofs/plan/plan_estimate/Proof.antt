@@ -2,7 +2,7 @@
 use borrow.Author.Rules.{rules}
 use mathlib.Core.Logic.{inl, inr}
 use mathlib.Core.Path.{sym, ◌∙◌}
-use Rattle.job.proofs.Plans.{plan-12, plan-beyond, plan-fits}
+use Rattle.job.proofs.Plans.{plan_12, plan_beyond, plan_fits}
 use Rattle.job.proofs.plan.plan_estimate.Statement.{statement}
 use Rattle.job.proofs.plan.plan_estimate.Tie as tie
 
@@ -29,7 +29,7 @@ returns c =
     let known = c.before.before.before in
     let odd = known.before.before in
     let a = odd.before.args in
-    plan-12 a.width a.height a.direction a.estimate _
+    plan_12 a.width a.height a.direction a.estimate _
     (sym odd.odd-length.ensures ∙ known.length.given.1) c.before.if1.true c.if2.true
 
 enum_told : tie.Need-enum-told
@@ -40,7 +40,7 @@ returns-2 c =
     let known = c.before.before.before in
     let odd = known.before.before in
     let a = odd.before.args in
-    plan-fits a.width a.height a.direction a.estimate _
+    plan_fits a.width a.height a.direction a.estimate _
     (sym odd.odd-length.ensures ∙ known.length.given.1) (inr c.if2.false)
 
 returns-3 : tie.Need-returns-3
@@ -48,14 +48,14 @@ returns-3 c =
     let known = c.before.before in
     let odd = known.before.before in
     let a = odd.before.args in
-    plan-fits a.width a.height a.direction a.estimate _
+    plan_fits a.width a.height a.direction a.estimate _
     (sym odd.odd-length.ensures ∙ known.length.given.1) (inl c.if1.false)
 
 returns-4 : tie.Need-returns-4
 returns-4 c =
     let odd = c.before.before in
     let a = odd.before.args in
-    plan-beyond a.width a.height a.direction a.estimate
+    plan_beyond a.width a.height a.direction a.estimate
     (sym odd.odd-length.ensures ∙ c.enum_told.given.1)
 
 pub plan-estimate-spec : {M : Type 1} → statement M

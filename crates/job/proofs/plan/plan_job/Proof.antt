@@ -1,6 +1,6 @@
 -- `job::plan::plan_job` meets its contract.
 use borrow.Author.Rules.{rules}
-use Rattle.job.proofs.Plans.{plan-found}
+use Rattle.job.proofs.Plans.{plan_found}
 use Rattle.job.proofs.plan.plan_job.Statement.{statement}
 use Rattle.job.proofs.plan.plan_job.Tie as tie
 
@@ -23,7 +23,7 @@ returns : tie.Need-returns
 returns c =
     let found = c.before.before in
     let known = found.before.before.before in
-    plan-found _ _ _ known.decreases.given.1 found.found.given.1 c.plan-estimate.ensures
+    plan_found _ _ _ known.decreases.given.1 found.found.given.1 c.plan_estimate.ensures
 
 returns-2 : tie.Need-returns-2
 returns-2 c = search rules

@@ -2,7 +2,7 @@
 use borrow.Author.Rules.{rules}
 use mathlib.Core.Path.{sym, ap, ◌∙◌}
 use Rattle.tensor.specs.declared.direction.DirectionAnswer.TheVariants.{Refused}
-use Rattle.job.proofs.Assembly.{start-refused, start-direction, start-floor}
+use Rattle.job.proofs.Assembly.{start_refused, start_direction, start_floor}
 use Rattle.job.proofs.plan.start_job.Statement.{statement}
 use Rattle.job.proofs.plan.start_job.Tie as tie
 
@@ -16,7 +16,7 @@ returns : tie.Need-returns
 returns c =
     let s = c.before in
     let start = c.refused-start in
-    start-refused _ _ (start.ensures ∙ s.before.job-refusal.ensures) start.result.direction
+    start_refused _ _ (start.ensures ∙ s.before.job-refusal.ensures) start.result.direction
     (λ z. s.if1.true (sym start.ensures ∙ z))
 
 estimate-confident-direction-requires : tie.Need-estimate-confident-direction-requires
@@ -32,7 +32,7 @@ returns-2 : tie.Need-returns-2
 returns-2 c =
     let d = c.before.before.before in
     let s = d.before in
-    start-direction _ _ s.before.job-refusal.ensures s.if1.false _
+    start_direction _ _ s.before.job-refusal.ensures s.if1.false _
     (sym d.estimate-confident-direction.ensures ∙ c.before.e.given.1)
 
 refused-start-requires-2 : tie.Need-refused-start-requires-2
@@ -44,7 +44,7 @@ returns-3 c =
     let d = n.before.before in
     let s = d.before in
     let start = c.refused-start2 in
-    start-floor _ _ s.before.job-refusal.ensures s.if1.false start.result.refusal start.result.direction
+    start_floor _ _ s.before.job-refusal.ensures s.if1.false start.result.refusal start.result.direction
     (sym d.estimate-confident-direction.ensures ∙ n.number.given.1 ∙ ap Refused (sym start.ensures))
 
 pub start-job-spec : {M : Type 1} → statement M

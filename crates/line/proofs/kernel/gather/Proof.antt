@@ -8,16 +8,16 @@ use lib.ListN.{length, length-set, set}
 use lib.Seq.{get_or-set_same, get_or-set_other}
 use mir.Syntax.{w32}
 use mir.Val.{to_z, of_z}
-use Rattle.line.specs.Kernel.{bytesOn}
+use Rattle.line.specs.Kernel.{bytes_on}
 use Rattle.line.proofs.KernelSum.{told}
-use Rattle.line.proofs.KernelGather.{Filled, filled_none, filled-other, filled_next, byte-within}
+use Rattle.line.proofs.KernelGather.{Filled, filled_none, filled_other, filled_next, byte_within}
 use Rattle.line.proofs.kernel.gather.Statement.{statement}
 use Rattle.line.proofs.kernel.gather.Tie as tie
 
 abbrev invariant-loop : tie.invariant-loop
 invariant-loop «data» start step n scratch₀ i₀ scratch i =
     (i ≤ n) × (length scratch ≡ length scratch₀)
-    × Filled 0 i (bytesOn «data» start step) scratch × Filled n i (bytesOn «data» start step) scratch
+    × Filled 0 i (bytes_on «data» start step) scratch × Filled n i (bytes_on «data» start step) scratch
 
 abbrev decreases-loop : tie.decreases-loop
 decreases-loop «data» start step n scratch₀ i₀ scratch i = n - i
@@ -30,7 +30,7 @@ start c = c.before.before.before
 
 within : (c : tie.In-loop invariant-loop decreases-loop)
     → (start c).args.start + c.before.loop.i * (start c).args.step < length (start c).args.«data».now
-within c = byte-within _ _ _ _ _ c.loop-test.true (start c).requires.reached
+within c = byte_within _ _ _ _ _ c.loop-test.true (start c).requires.reached
 
 mul-widen-u8 : tie.Need-overflow-mul-widen-u8 invariant-loop decreases-loop
 mul-widen-u8 c = omega (arith, within c)
@@ -72,20 +72,20 @@ loop-again c =
     let i = l.i in
     let n = s.args.n in
     let v = to_z w32 (of_z w32 c.widen-u8.result) in
-    let e : v ≡ bytesOn s.args.«data».now s.args.start s.args.step i =
+    let e : v ≡ bytes_on s.args.«data».now s.args.start s.args.step i =
     told (record { sfits = c.widen-u8.type-inv }) c.widen-u8.ensures
     in
     let once = set l.scratch i v in
     let in-first : i < length l.scratch = omega (arith, s.pre) in
     let in-second : n + i < length once = simp length-set (omega (arith, s.pre)) in
-    let observed = filled-other l.invariant.2 i v (λ j h q. omega arith) in
-    let estimate = filled-other l.invariant.3 i v (λ j h q. omega (arith, s.pre)) in (
+    let observed = filled_other l.invariant.2 i v (λ j h q. omega arith) in
+    let estimate = filled_other l.invariant.3 i v (λ j h q. omega (arith, s.pre)) in (
       omega arith,
       simp length-set l.invariant.1,
-      filled_next (filled-other observed (n + i) v (λ j h q. omega arith))
+      filled_next (filled_other observed (n + i) v (λ j h q. omega arith))
           (get_or-set_other once (n + i) (0 + i) v (pos 0) (λ q. omega (arith, s.pre))
           ∙ rw (zero-add i) (get_or-set_same l.scratch i v (pos 0) in-first ∙ e)),
-      filled_next (filled-other estimate (n + i) v (λ j h q. omega arith))
+      filled_next (filled_other estimate (n + i) v (λ j h q. omega arith))
           (get_or-set_same once (n + i) v (pos 0) in-second ∙ e),
     )
 

@@ -1,15 +1,15 @@
 -- `line::kernel::iterate_line` meets its contract.
 use mathlib.Core.Path.{◌∙◌}
 use Prim.Native.Nat.{◌≤◌}
-use Rattle.raster.specs.Border.{borderValue}
+use Rattle.raster.specs.Border.{border_value}
 use Rattle.line.specs.Kernel.{line_at}
-use Rattle.line.proofs.BorderByte.{kernel-byte}
-use Rattle.line.proofs.KernelIteration.{mean-asked, step-asked, iterated-next}
+use Rattle.line.proofs.BorderByte.{kernel_byte}
+use Rattle.line.proofs.KernelIteration.{mean_asked, step_asked, iterated_next}
 use Rattle.line.proofs.kernel.iterate_line.Statement.{statement}
 use Rattle.line.proofs.kernel.iterate_line.Tie as tie
 
-value : (c : tie.Start) → borderValue c.args.kernel.border ≤ 255
-value c = kernel-byte c.args.kernel _ c.well-formed.1.0
+value : (c : tie.Start) → border_value c.args.kernel.border ≤ 255
+value c = kernel_byte c.args.kernel _ c.well-formed.1.0
 
 reciprocal-of-requires : tie.Need-reciprocal-of-requires
 reciprocal-of-requires c κs = let t = c.requires.taken in (t.long, t.bounded)
@@ -18,7 +18,7 @@ line-mean-requires : tie.Need-line-mean-requires
 line-mean-requires c κs =
     let s = c.before.before in
     let a = s.requires in
-    mean-asked s.args.kernel s.args.n a.some (value s) a.taken a.short
+    mean_asked s.args.kernel s.args.n a.some (value s) a.taken a.short
     (line_at 0 s.args.scratch.now) a.bytes a.more c.before.reciprocal-of.ensures a.room a.iterated
 
 line-step-requires : tie.Need-line-step-requires
@@ -27,7 +27,7 @@ line-step-requires c κs =
     let reciprocal = mean.before.before in
     let s = reciprocal.before in
     let a = s.requires in
-    step-asked s.args.kernel s.args.n a.some (value s) a.taken a.short
+    step_asked s.args.kernel s.args.n a.some (value s) a.taken a.short
     (line_at 0 s.args.scratch.now) a.bytes a.more reciprocal.reciprocal-of.ensures a.room a.iterated
     mean.line-mean.ensures
 
@@ -40,7 +40,7 @@ returns c =
     let reciprocal = mean.before.before in
     let s = reciprocal.before in
     let a = s.requires in
-    iterated-next s.args.kernel s.args.n a.some (value s) a.taken a.short
+    iterated_next s.args.kernel s.args.n a.some (value s) a.taken a.short
     (line_at 0 s.args.scratch.now) a.bytes a.more reciprocal.reciprocal-of.ensures a.room a.iterated
     mean.line-mean.ensures c.before.line_step.ensures
 

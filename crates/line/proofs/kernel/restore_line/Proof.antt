@@ -4,18 +4,18 @@ use Prim.Native.Nat.{ℕ, ◌+◌, ◌-◌, ◌*◌, ◌≤◌}
 use native.Mathlib.Omega.{arith}
 use lib.IntN.{ℤ}
 use lib.ListN.{length}
-use Rattle.raster.specs.Border.{borderValue}
-use Rattle.line.specs.Kernel.{bytesOn, Iterated}
-use Rattle.line.proofs.BorderByte.{kernel-byte}
+use Rattle.raster.specs.Border.{border_value}
+use Rattle.line.specs.Kernel.{bytes_on, Iterated}
+use Rattle.line.proofs.BorderByte.{kernel_byte}
 use Rattle.line.proofs.LineWindow.{Bounded}
-use Rattle.line.proofs.KernelIteration.{iterated-none, iteration-asked, iterated-on}
+use Rattle.line.proofs.KernelIteration.{iterated_none, iteration_asked, iterated_on}
 use Rattle.line.proofs.kernel.restore_line.Statement.{statement}
 use Rattle.line.proofs.kernel.restore_line.Tie as tie
 
 abbrev invariant-loop : tie.invariant-loop
 invariant-loop «data» start step n kernel scratch₀ k₀ scratch k =
     (k ≤ kernel.iterations) × (length scratch ≡ length scratch₀)
-    × Iterated kernel n (bytesOn «data» start step) k scratch
+    × Iterated kernel n (bytes_on «data» start step) k scratch
 
 abbrev decreases-loop : tie.decreases-loop
 decreases-loop «data» start step n kernel scratch₀ k₀ scratch k = kernel.iterations - k
@@ -26,7 +26,7 @@ gather-requires c κs = c.before.before.requires.0
 loop-holds : tie.Need-loop-init invariant-loop decreases-loop
 loop-holds c =
     let s = c.before.before.before.before in
-    (omega arith, refl, iterated-none s.args.kernel c.before.gather.ensures)
+    (omega arith, refl, iterated_none s.args.kernel c.before.gather.ensures)
 
 -- at the loop's head
 module _ (c : tie.At-loop invariant-loop decreases-loop) where
@@ -37,13 +37,13 @@ module _ (c : tie.At-loop invariant-loop decreases-loop) where
   start = known.before
 
   abbrev samples : ℕ → ℤ
-  samples = bytesOn start.args.«data».now start.args.start start.args.step
+  samples = bytes_on start.args.«data».now start.args.start start.args.step
 
   bytes : Bounded start.args.n 255 samples
   bytes i h = omega (arith, known.shared-slice-known.given (start.args.start + i * start.args.step))
 
-  value : borderValue start.args.kernel.border ≤ 255
-  value = kernel-byte start.args.kernel _ start.good.1.1.1.1.0
+  value : border_value start.args.kernel.border ≤ 255
+  value = kernel_byte start.args.kernel _ start.good.1.1.1.1.0
 
   room : 3 * start.args.n ≤ length c.loop.scratch
   room = omega (arith, start.pre.0.room, c.before.before.gather.auto.1.1.1.1.0)
@@ -53,7 +53,7 @@ iterate-line-requires c κs =
     let l = c.before.before.before in
     let s = start l in
     let line = s.pre.0 in
-    iteration-asked s.args.kernel s.args.n line.some (value l) (samples l) l.loop.invariant.2 line.short
+    iteration_asked s.args.kernel s.args.n line.some (value l) (samples l) l.loop.invariant.2 line.short
     (room l) s.pre.1 c.before.if1.true (bytes l)
 
 add-k : tie.Need-overflow-add-k invariant-loop decreases-loop
@@ -69,7 +69,7 @@ loop-again c =
     let iterated = c.before.iterate-line in (
       omega arith,
       iterated.auto.1.1.1.0 ∙ l.loop.invariant.1,
-      iterated-on s.args.kernel s.args.n s.pre.0.some (value l) (samples l) l.loop.invariant.2
+      iterated_on s.args.kernel s.args.n s.pre.0.some (value l) (samples l) l.loop.invariant.2
           iterated.ensures,
     )
 

@@ -3,7 +3,7 @@ use borrow.Author.Rules.{rules}
 use mathlib.Core.Path.{sym, ◌∙◌}
 use native.Mathlib.Omega.{arith}
 use Rattle.line.proofs.KernelSum.{told}
-use Rattle.line.proofs.KernelMean.{asked-kept, window-kept, means-join}
+use Rattle.line.proofs.KernelMean.{asked_kept, window_kept, means_join}
 use Rattle.line.proofs.mean.line_mean.Statement.{statement}
 use Rattle.line.proofs.mean.line_mean.Tie as tie
 
@@ -37,12 +37,12 @@ mean-inside-requires c κs =
     let head = c.before.before in
     let s = start head in
     let written = head.mean-edge2.ensures in (
-      asked-kept s.args.settings s.pre written.0,
+      asked_kept s.args.settings s.pre written.0,
       omega arith,
       omega arith,
       omega arith,
       told (record { sfits = head.mean-edge2.type-inv })
-          (written.1 ∙ sym (window-kept s.args.settings s.pre written.0 _)),
+          (written.1 ∙ sym (window_kept s.args.settings s.pre written.0 _)),
     )
 
 sub-mean-edge : tie.Need-overflow-sub-mean-edge
@@ -53,13 +53,13 @@ mean-edge-requires-3 c κs =
     let middle = c.before.before in
     let head = middle.before.before.before in
     let s = start head in
-    let asked = asked-kept s.args.settings s.pre head.mean-edge2.ensures.0 in
+    let asked = asked_kept s.args.settings s.pre head.mean-edge2.ensures.0 in
     let written = middle.mean-inside.ensures in (
-      asked-kept s.args.settings asked written.0,
+      asked_kept s.args.settings asked written.0,
       omega arith,
       omega arith,
       told (record { sfits = middle.mean-inside.type-inv })
-          (written.1 ∙ sym (window-kept s.args.settings asked written.0 _)),
+          (written.1 ∙ sym (window_kept s.args.settings asked written.0 _)),
     )
 
 same-length-2 : tie.Need-same-length-2
@@ -71,8 +71,8 @@ returns-2 c =
     let head = middle.before.before.before in
     let s = start head in
     let first = head.mean-edge2.ensures.0 in
-    means-join s.args.settings s.pre
-    (means-join s.args.settings s.pre first middle.mean-inside.ensures.0 (omega arith) (omega arith))
+    means_join s.args.settings s.pre
+    (means_join s.args.settings s.pre first middle.mean-inside.ensures.0 (omega arith) (omega arith))
     c.before.mean-edge3.ensures.0 (omega arith) (omega arith)
 
 pub line-mean-spec : {M : Type 1} → statement M

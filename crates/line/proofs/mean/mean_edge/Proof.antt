@@ -6,18 +6,18 @@ use lib.ListN.{length, set}
 use mir.Syntax.{w32, w64}
 use mir.Val.{to_z, of_z}
 use mir.Facts.{to_z-of_z}
-use Rattle.image.specs.Refusal.{maxSide}
-use Rattle.line.specs.Kernel.{windowAt, MeansWritten}
+use Rattle.image.specs.Refusal.{max_side}
+use Rattle.line.specs.Kernel.{window_at, MeansWritten}
 use Rattle.line.proofs.KernelSum.{told}
-use Rattle.line.proofs.KernelMean.{window-size, window-slides, window_on, sample-kept, asked-kept}
-use Rattle.line.proofs.KernelMean.{means-none, means-next}
+use Rattle.line.proofs.KernelMean.{window_size, window_slides, window_on, sample_kept, asked_kept}
+use Rattle.line.proofs.KernelMean.{means_none, means_next}
 use Rattle.line.proofs.mean.mean_edge.Statement.{statement}
 use Rattle.line.proofs.mean.mean_edge.Tie as tie
 
 abbrev invariant-loop : tie.invariant-loop
 invariant-loop scratch₀ settings start end first n border half sum₀ p₀ scratch sum p =
     (start ≤ p) × (p ≤ end) × MeansWritten settings start p scratch₀ scratch
-    × (to_z w64 sum ≡ windowAt settings scratch₀ p)
+    × (to_z w64 sum ≡ window_at settings scratch₀ p)
 
 abbrev decreases-loop : tie.decreases-loop
 decreases-loop scratch₀ settings start end first n border half sum₀ p₀ scratch sum p = end - p
@@ -25,14 +25,14 @@ decreases-loop scratch₀ settings start end first n border half sum₀ p₀ scr
 loop-holds : tie.Need-loop-init invariant-loop decreases-loop
 loop-holds c =
     let s = c.before in
-    let none = means-none s.args.settings s.requires.0 s.args.start in
+    let none = means_none s.args.settings s.requires.0 s.args.start in
     (omega arith, s.requires.1, none, to_z-of_z s.ranges.first ∙ s.requires.3)
 
 floor-mean-requires : tie.Need-floor-mean-requires invariant-loop decreases-loop
 floor-mean-requires c κs =
     let l = c.before in
     let s = l.before.before in
-    (s.requires.0.divides, rw l.loop.invariant.3 (window-size s.args.settings s.requires.0 l.loop.p))
+    (s.requires.0.divides, rw l.loop.invariant.3 (window_size s.args.settings s.requires.0 l.loop.p))
 
 -- the mean's store
 module _ (c : tie.After-floor-mean invariant-loop decreases-loop) where
@@ -47,15 +47,15 @@ module _ (c : tie.After-floor-mean invariant-loop decreases-loop) where
       (to_z w32 (of_z w32 c.floor-mean.result)))
   stored =
       let i = at-loop.loop.inv in
-      means-next start.args.settings start.pre.0 _ i.2 i.0 (omega arith) i.3
+      means_next start.args.settings start.pre.0 _ i.2 i.0 (omega arith) i.3
       (told (record { sfits = c.floor-mean.type-inv }) c.floor-mean.ensures)
 
   -- what a sample asks after it
-  sampled : (1 ≤ start.args.settings.n) × (start.args.settings.n ≤ maxSide)
+  sampled : (1 ≤ start.args.settings.n) × (start.args.settings.n ≤ max_side)
       × (3 * start.args.settings.n
       ≤ length (set at-loop.loop.scratch (start.args.settings.n + start.args.settings.n + at-loop.loop.p)
       (to_z w32 (of_z w32 c.floor-mean.result))))
-  sampled = let a = asked-kept _ start.pre.0 stored in (a.some, a.short, a.room)
+  sampled = let a = asked_kept _ start.pre.0 stored in (a.some, a.short, a.room)
 
 add-t15 : tie.Need-overflow-add-t15 invariant-loop decreases-loop
 add-t15 c = let a = (start c).requires.0 in omega arith
@@ -82,7 +82,7 @@ slide-requires : tie.Need-slide-requires invariant-loop decreases-loop
 slide-requires c κs =
     let f = c.before.before.before.before.before in
     let l = (at-loop f).loop in
-    rw l.inv.3 (window-slides (start f).args.settings (start f).requires.0 l.p)
+    rw l.inv.3 (window_slides (start f).args.settings (start f).requires.0 l.p)
 
 add-p : tie.Need-overflow-add-p invariant-loop decreases-loop
 add-p c = omega arith
@@ -96,7 +96,7 @@ loop-again c =
     let s = (start f).args.settings in
     let a = (start f).requires.0 in
     let l = (at-loop f).loop in
-    let entering = c.before.before.before.sample-at in
+    let entering = c.before.before.before.sample_at_lem in
     let leaving = c.before.sample-at2 in (
       omega arith,
       omega arith,
@@ -104,8 +104,8 @@ loop-again c =
       told (record { sfits = c.slide.type-inv })
           (c.slide.ensures
           ∙ window_on s a l.p l.inv.3
-          (told (record { sfits = entering.type-inv }) (entering.ensures ∙ sample-kept s a (stored f) _))
-          (told (record { sfits = leaving.type-inv }) (leaving.ensures ∙ sample-kept s a (stored f) _))),
+          (told (record { sfits = entering.type-inv }) (entering.ensures ∙ sample_kept s a (stored f) _))
+          (told (record { sfits = leaving.type-inv }) (leaving.ensures ∙ sample_kept s a (stored f) _))),
     )
 
 same_length : tie.Need-same-length invariant-loop decreases-loop

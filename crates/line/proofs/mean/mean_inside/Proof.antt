@@ -6,17 +6,17 @@ use lib.ListN.{set}
 use mir.Syntax.{w32, w64}
 use mir.Val.{to_z, of_z}
 use mir.Facts.{to_z-of_z}
-use Rattle.line.specs.Kernel.{MeanAsked, windowAt, MeansWritten}
+use Rattle.line.specs.Kernel.{MeanAsked, window_at, MeansWritten}
 use Rattle.line.proofs.KernelSum.{told}
-use Rattle.line.proofs.KernelMean.{window-size, window-slides, window_on, sample-on, asked-kept}
-use Rattle.line.proofs.KernelMean.{means-none, means-next}
+use Rattle.line.proofs.KernelMean.{window_size, window_slides, window_on, sample_on, asked_kept}
+use Rattle.line.proofs.KernelMean.{means_none, means_next}
 use Rattle.line.proofs.mean.mean_inside.Statement.{statement}
 use Rattle.line.proofs.mean.mean_inside.Tie as tie
 
 abbrev invariant-loop : tie.invariant-loop
 invariant-loop scratch₀ settings start end first n half sum₀ p₀ scratch sum p =
     (start ≤ p) × (p ≤ end) × MeansWritten settings start p scratch₀ scratch
-    × (to_z w64 sum ≡ windowAt settings scratch₀ p)
+    × (to_z w64 sum ≡ window_at settings scratch₀ p)
 
 abbrev decreases-loop : tie.decreases-loop
 decreases-loop scratch₀ settings start end first n half sum₀ p₀ scratch sum p = end - p
@@ -24,14 +24,14 @@ decreases-loop scratch₀ settings start end first n half sum₀ p₀ scratch su
 loop-holds : tie.Need-loop-init invariant-loop decreases-loop
 loop-holds c =
     let s = c.before in
-    let none = means-none s.args.settings s.requires.0 s.args.start in
+    let none = means_none s.args.settings s.requires.0 s.args.start in
     (omega arith, s.requires.1, none, to_z-of_z s.ranges.first ∙ s.requires.4)
 
 floor-mean-requires : tie.Need-floor-mean-requires invariant-loop decreases-loop
 floor-mean-requires c κs =
     let l = c.before in
     let s = l.before.before in
-    (s.requires.0.divides, rw l.loop.invariant.3 (window-size s.args.settings s.requires.0 l.loop.p))
+    (s.requires.0.divides, rw l.loop.invariant.3 (window_size s.args.settings s.requires.0 l.loop.p))
 
 -- the mean's store
 module _ (c : tie.After-floor-mean invariant-loop decreases-loop) where
@@ -46,13 +46,13 @@ module _ (c : tie.After-floor-mean invariant-loop decreases-loop) where
       (to_z w32 (of_z w32 c.floor-mean.result)))
   stored =
       let i = at-loop.loop.inv in
-      means-next start.args.settings start.pre.0 _ i.2 i.0 (omega arith) i.3
+      means_next start.args.settings start.pre.0 _ i.2 i.0 (omega arith) i.3
       (told (record { sfits = c.floor-mean.type-inv }) c.floor-mean.ensures)
 
   asked : MeanAsked start.args.settings
       (set at-loop.loop.scratch (start.args.settings.n + start.args.settings.n + at-loop.loop.p)
       (to_z w32 (of_z w32 c.floor-mean.result)))
-  asked = asked-kept _ start.pre.0 stored
+  asked = asked_kept _ start.pre.0 stored
 
 add-entering : tie.Need-overflow-add-entering invariant-loop decreases-loop
 add-entering c = let a = (start c).requires in omega arith
@@ -98,7 +98,7 @@ slide-requires : tie.Need-slide-requires invariant-loop decreases-loop
 slide-requires c κs =
     let f = c.before.before.before in
     let l = (at-loop f).loop in
-    rw l.inv.3 (window-slides (start f).args.settings (start f).requires.0 l.p)
+    rw l.inv.3 (window_slides (start f).args.settings (start f).requires.0 l.p)
 
 add-p : tie.Need-overflow-add-p invariant-loop decreases-loop
 add-p c = omega arith
@@ -112,8 +112,8 @@ loop-again c =
     let s = (start f).args.settings in
     let a = (start f).requires.0 in
     let l = (at-loop f).loop in
-    let entering = sample-on s a (stored f) (l.p + s.blur_length) (omega arith) (omega arith) in
-    let leaving = sample-on s a (stored f) l.p (omega arith) (omega arith) in (
+    let entering = sample_on s a (stored f) (l.p + s.blur_length) (omega arith) (omega arith) in
+    let leaving = sample_on s a (stored f) l.p (omega arith) (omega arith) in (
       omega arith,
       omega arith,
       stored f,

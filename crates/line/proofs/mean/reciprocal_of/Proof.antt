@@ -9,7 +9,7 @@ div-result : tie.Need-nonzero-div-result
 div-result c = search rules
 
 add-result : tie.Need-overflow-add-result
-add-result c = omega (arith, div-le_self 4398046511104 c.before.args.blur-length)
+add-result c = omega (arith, div-le_self 4398046511104 c.before.args.blur_length)
 
 returns : tie.Need-returns
 returns c = search rules

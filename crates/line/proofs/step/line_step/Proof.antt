@@ -7,7 +7,7 @@ use mir.Syntax.{w32}
 use mir.Val.{to_z, of_z}
 use Rattle.line.specs.Kernel.{LineStepped}
 use Rattle.line.proofs.KernelSum.{told}
-use Rattle.line.proofs.KernelStep.{stepped-none, step-asked, stepped-next}
+use Rattle.line.proofs.KernelStep.{stepped_none, step_asked, stepped_next}
 use Rattle.line.proofs.step.line_step.Statement.{statement}
 use Rattle.line.proofs.step.line_step.Tie as tie
 
@@ -18,7 +18,7 @@ abbrev decreases-loop : tie.decreases-loop
 decreases-loop scratch₀ n q i₀ scratch i = n - i
 
 loop-holds : tie.Need-loop-init invariant-loop decreases-loop
-loop-holds c = (omega arith, stepped-none c.requires)
+loop-holds c = (omega arith, stepped_none c.requires)
 
 add-step-from : tie.Need-overflow-add-step-from invariant-loop decreases-loop
 add-step-from c = omega arith
@@ -53,7 +53,7 @@ at-loop c = c.before.before.before.before
 step-from-requires : tie.Need-step-from-requires invariant-loop decreases-loop
 step-from-requires c κs =
     let l = at-loop c in
-    step-asked l.before.pre l.loop.inv.1 c.before.before.before.loop-test.true
+    step_asked l.before.pre l.loop.inv.1 c.before.before.before.loop-test.true
     (to_z-of_z (record { sfits = c.before.before.step-from-arg.given }))
     (to_z-of_z (record { sfits = c.before.step-from-arg2.given }))
     (to_z-of_z (record { sfits = c.step-from-arg3.given }))
@@ -79,7 +79,7 @@ loop-again c =
     let l = at-loop read in
     let test = read.before.before.before.loop-test in (
       omega arith,
-      stepped-next l.before.pre l.loop.inv.1 test.true (to_z w32 (of_z w32 c.step_from.result))
+      stepped_next l.before.pre l.loop.inv.1 test.true (to_z w32 (of_z w32 c.step_from.result))
           (to_z-of_z (record { sfits = read.before.before.step-from-arg.given }))
           (to_z-of_z (record { sfits = read.before.step-from-arg2.given }))
           (to_z-of_z (record { sfits = read.step-from-arg3.given }))

@@ -8,12 +8,12 @@ use mir.Syntax.{w32, w64}
 use mir.Val.{SFits, to_z, of_z}
 use mir.Facts.{to_z-of_z}
 use Rattle.numbers.specs.Sum.{total}
-use Rattle.numbers.proofs.Int.Machine.{fits-as, held}
-use Rattle.numbers.proofs.Int.Size.{size-sfits}
-use Rattle.line.specs.Kernel.{line_at, sampleAt, windowAt}
+use Rattle.numbers.proofs.Int.Machine.{fits_as, held}
+use Rattle.numbers.proofs.Int.Size.{size_sfits}
+use Rattle.line.specs.Kernel.{line_at, sample_at, window_at}
 use Rattle.line.proofs.KernelSum.{told}
-use Rattle.line.proofs.KernelMean.{window-fits}
-use Rattle.line.proofs.KernelFirst.{flat-window, flat-fits}
+use Rattle.line.proofs.KernelMean.{window_fits}
+use Rattle.line.proofs.KernelFirst.{flat_window, flat_fits}
 use Rattle.line.proofs.window.flat_window.Statement.{statement}
 use Rattle.line.proofs.window.flat_window.Tie as tie
 
@@ -29,18 +29,18 @@ sample-at-requires c κs = search rules
 widen-i32-requires : tie.Need-widen-i32-requires
 widen-i32-requires c κs = search rules
 
-before-is : (c : tie.After-widen-i32) → to_z w64 (of_z w64 c.widen-i32.result) ≡ c.before.sample-at.result
+before-is : (c : tie.After-widen-i32) → to_z w64 (of_z w64 c.widen-i32.result) ≡ c.before.sample_at_lem.result
 before-is c =
     told (record { sfits = c.widen-i32.type-inv })
-    (c.widen-i32.ensures ∙ to_z-of_z (record { sfits = c.before.sample-at.type-inv }))
+    (c.widen-i32.ensures ∙ to_z-of_z (record { sfits = c.before.sample_at_lem.type-inv }))
 
 -- a sample is small enough for `times`
 small : (z : ℤ) → SFits w32 z → nat_abs z < 2 ^ 51
-small z f = omega (arith, size-sfits f)
+small z f = omega (arith, size_sfits f)
 
 times-requires : tie.Need-times-requires
 times-requires c κs =
-    let sample = c.before.sample-at in
+    let sample = c.before.sample_at_lem in
     let s = c.before.before.before.before.before in
     (omega (arith, s.requires.0.divides), rw (before-is c) (small sample.result (record { sfits = sample.type-inv })))
 
@@ -91,13 +91,13 @@ module _ (c : tie.After-line-sum) where
   rest = start.args.settings.blur_length - half - at-inside.min-usize.result
 
   abbrev sampled : ℕ → ℤ
-  sampled = sampleAt start.args.settings start.args.scratch.now
+  sampled = sample_at start.args.settings start.args.scratch.now
 
   before-sum : to_z w64 (of_z w64 at_before.times.result) ≡ pos half *ℤ sampled 0
   before-sum =
       told (record { sfits = at_before.times.ok })
       (at_before.times.ensures
-      ∙ ap (pos half *ℤ◌) (before-is at_before.before ∙ at_before.before.before.sample-at.ensures))
+      ∙ ap (pos half *ℤ◌) (before-is at_before.before ∙ at_before.before.before.sample_at_lem.ensures))
 
   abbrev inside : ℤ
   inside = total (line_at start.args.settings.n start.args.scratch.now) 0 at-inside.min-usize.result
@@ -118,24 +118,24 @@ module _ (c : tie.After-line-sum) where
   two-fit : SFits w64 (to_z w64 (of_z w64 at_before.times.result) +ℤ to_z w64 (of_z w64 c.line-sum.result))
   two-fit =
       let count = at-inside.min-usize in
-      fits-as two (flat-fits start.args.settings start.pre.0 count.result (omega (arith, count.ensures)))
+      fits_as two (flat_fits start.args.settings start.pre.0 count.result (omega (arith, count.ensures)))
 
   -- all three
   sum_is : to_z w64 (of_z w64 (to_z w64 (of_z w64 at_before.times.result) +ℤ to_z w64 (of_z w64 c.line-sum.result)))
-      +ℤ to_z w64 (of_z w64 c.before.times2.result) ≡ windowAt start.args.settings start.args.scratch.now 0
+      +ℤ to_z w64 (of_z w64 c.before.times2.result) ≡ window_at start.args.settings start.args.scratch.now 0
   sum_is =
       let count = at-inside.min-usize in
       ap₂ ◌+ℤ◌ (to_z-of_z two-fit ∙ two) behind_sum
-      ∙ flat-window start.args.settings start.pre.0 start.pre.1 count.result count.ensures
+      ∙ flat_window start.args.settings start.pre.0 start.pre.1 count.result count.ensures
 
 add-result : tie.Need-overflow-add-result
 add-result c = two-fit c
 
 add-result-2 : tie.Need-overflow-add-result-2
-add-result-2 c = let s = start c in fits-as (sum_is c) (window-fits s.args.settings s.pre.0 0)
+add-result-2 c = let s = start c in fits_as (sum_is c) (window_fits s.args.settings s.pre.0 0)
 
 returns : tie.Need-returns
-returns c = let s = start c in held (sum_is c) (window-fits s.args.settings s.pre.0 0)
+returns c = let s = start c in held (sum_is c) (window_fits s.args.settings s.pre.0 0)
 
 pub flat-window-spec : {M : Type 1} → statement M
 flat-window-spec =

@@ -7,10 +7,10 @@ use mir.Syntax.{w64}
 use mir.Val.{to_z}
 use mir.Facts.{to_z-of_z}
 use Rattle.numbers.specs.Sum.{total}
-use Rattle.numbers.proofs.Sum.{total-zero, total-within}
-use Rattle.image.specs.Refusal.{maxSide}
+use Rattle.numbers.proofs.Sum.{total_zero, total_within}
+use Rattle.image.specs.Refusal.{max_side}
 use Rattle.line.specs.Kernel.{line_at, largest}
-use Rattle.line.proofs.KernelSum.{told, largest-most, total-on}
+use Rattle.line.proofs.KernelSum.{told, largest_most, total_on}
 use Rattle.line.proofs.window.line_sum.Statement.{statement}
 use Rattle.line.proofs.window.line_sum.Tie as tie
 
@@ -21,7 +21,7 @@ abbrev decreases-loop : tie.decreases-loop
 decreases-loop scratch count n sum₀ i₀ sum i = count - i
 
 loop-holds : tie.Need-loop-init invariant-loop decreases-loop
-loop-holds c = (omega arith, sym (total-zero _ 0))
+loop-holds c = (omega arith, sym (total_zero _ 0))
 
 add-slide : tie.Need-overflow-add-slide invariant-loop decreases-loop
 add-slide c = omega arith
@@ -42,8 +42,8 @@ slide-requires c κs =
     rw l.invariant.1
     (omega (
       arith,
-      total-within line 0 l.i (largest r) (λ i _ h. a.small i (omega (arith, s.requires))),
-      mul-le-mul {n₁ = l.i} {n₂ = maxSide} (omega (arith, a.short)) (largest-most r),
+      total_within line 0 l.i (largest r) (λ i _ h. a.small i (omega (arith, s.requires))),
+      mul-le-mul {n₁ = l.i} {n₂ = max_side} (omega (arith, a.short)) (largest_most r),
     ))
 
 add-i : tie.Need-overflow-add-i invariant-loop decreases-loop
@@ -60,7 +60,7 @@ loop-again c =
     let line = line_at s.args.settings.n s.args.scratch.now in
     let sample = to_z-of_z (record { sfits = c.before.slide-arg.given }) in (
       omega arith,
-      told (record { sfits = c.slide.type-inv }) (c.slide.ensures ∙ total-on line l.i l.invariant.1 sample),
+      told (record { sfits = c.slide.type-inv }) (c.slide.ensures ∙ total_on line l.i l.invariant.1 sample),
     )
 
 returns : tie.Need-returns invariant-loop decreases-loop

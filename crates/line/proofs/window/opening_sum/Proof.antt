@@ -7,24 +7,24 @@ use lib.IntN.{sub_ℕ}
 use mir.Syntax.{w64}
 use mir.Val.{to_z}
 use Rattle.numbers.specs.Sum.{total}
-use Rattle.numbers.proofs.Sum.{total-zero}
-use Rattle.raster.specs.Border.{borderMap}
+use Rattle.numbers.proofs.Sum.{total_zero}
+use Rattle.raster.specs.Border.{border_map}
 use Rattle.line.specs.Line.{sample}
-use Rattle.line.specs.Kernel.{longestBlur, line_at}
-use Rattle.line.proofs.KernelSum.{told, largest-most, total-on}
-use Rattle.line.proofs.KernelMean.{opening-size}
+use Rattle.line.specs.Kernel.{longest_blur, line_at}
+use Rattle.line.proofs.KernelSum.{told, largest_most, total_on}
+use Rattle.line.proofs.KernelMean.{opening_size}
 use Rattle.line.proofs.window.opening_sum.Statement.{statement}
 use Rattle.line.proofs.window.opening_sum.Tie as tie
 
 abbrev invariant-loop : tie.invariant-loop
 invariant-loop scratch count n border half sum₀ u₀ sum u =
-    (u ≤ count) × (to_z w64 sum ≡ total (λ v. sample (borderMap border n) (line_at n scratch) (sub_ℕ v half)) 0 u)
+    (u ≤ count) × (to_z w64 sum ≡ total (λ v. sample (border_map border n) (line_at n scratch) (sub_ℕ v half)) 0 u)
 
 abbrev decreases-loop : tie.decreases-loop
 decreases-loop scratch count n border half sum₀ u₀ sum u = count - u
 
 loop-holds : tie.Need-loop-init invariant-loop decreases-loop
-loop-holds c = (omega arith, sym (total-zero _ 0))
+loop-holds c = (omega arith, sym (total_zero _ 0))
 
 sample-at-requires : tie.Need-sample-at-requires invariant-loop decreases-loop
 sample-at-requires c κs = let a = c.before.before.before.requires.0 in (a.some, a.short, a.room)
@@ -36,8 +36,8 @@ slide-requires c κs =
     let l = at-loop.loop in
     let a = s.requires.0 in
     let r = s.args.settings.reciprocal in
-    let most = mul-le-mul {n₁ = l.u} {n₂ = longestBlur} (omega (arith, a.divides)) (largest-most r) in
-    rw l.invariant.1 (omega (arith, opening-size s.args.settings a l.u, most))
+    let most = mul-le-mul {n₁ = l.u} {n₂ = longest_blur} (omega (arith, a.divides)) (largest_most r) in
+    rw l.invariant.1 (omega (arith, opening_size s.args.settings a l.u, most))
 
 add-u : tie.Need-overflow-add-u invariant-loop decreases-loop
 add-u c = let at-loop = c.before.before.before in omega (arith, at-loop.before.before.requires.0.divides)
@@ -48,11 +48,11 @@ loop-less c = omega arith
 loop-again : tie.Need-loop-preserved invariant-loop decreases-loop
 loop-again c =
     let l = c.before.before.before.loop in
-    let sample = c.before.sample-at in (
+    let sample = c.before.sample_at_lem in (
       omega arith,
       told (record { sfits = c.slide.type-inv })
           (c.slide.ensures
-          ∙ total-on _ l.u l.invariant.1 (told (record { sfits = sample.type-inv }) sample.ensures)),
+          ∙ total_on _ l.u l.invariant.1 (told (record { sfits = sample.type-inv }) sample.ensures)),
     )
 
 returns : tie.Need-returns invariant-loop decreases-loop

@@ -6,11 +6,11 @@ use native.Mathlib.Omega.{arith}
 use lib.IntN.{pos, ◌+ℤ◌, ◌*ℤ◌}
 use mir.Syntax.{w64}
 use mir.Val.{to_z, of_z}
-use Rattle.numbers.proofs.Int.Machine.{fits-as, held}
-use Rattle.line.specs.Kernel.{longestBlur, windowAt}
-use Rattle.line.proofs.KernelSum.{told, largest-most}
-use Rattle.line.proofs.KernelMean.{window-fits, opening-size, opening-whole}
-use Rattle.line.proofs.KernelFirst.{periodic-window}
+use Rattle.numbers.proofs.Int.Machine.{fits_as, held}
+use Rattle.line.specs.Kernel.{longest_blur, window_at}
+use Rattle.line.proofs.KernelSum.{told, largest_most}
+use Rattle.line.proofs.KernelMean.{window_fits, opening_size, opening_whole}
+use Rattle.line.proofs.KernelFirst.{periodic_window}
 use Rattle.line.proofs.window.periodic_window.Statement.{statement}
 use Rattle.line.proofs.window.periodic_window.Tie as tie
 
@@ -21,7 +21,7 @@ returns : tie.Need-returns
 returns c =
     let s = c.before.before in
     told (record { sfits = c.opening-sum.type-inv })
-    (c.opening-sum.ensures ∙ opening-whole s.args.settings s.args.scratch.now)
+    (c.opening-sum.ensures ∙ opening_whole s.args.settings s.args.scratch.now)
 
 div-times : tie.Need-nonzero-div-times
 div-times c = c.before.requires.1.some
@@ -35,10 +35,10 @@ times-requires c κs =
     let a = s.requires.0 in
     let period = s.args.period in
     let r = s.args.settings.reciprocal in
-    let most = mul-le-mul {n₁ = period} {n₂ = longestBlur} (omega (arith, a.divides)) (largest-most r) in (
+    let most = mul-le-mul {n₁ = period} {n₂ = longest_blur} (omega (arith, a.divides)) (largest_most r) in (
       omega (arith, div-le_self s.args.settings.blur_length period, a.divides),
       rw (told (record { sfits = c.opening-sum2.type-inv }) c.opening-sum2.ensures)
-          (omega (arith, opening-size s.args.settings a period, most)),
+          (omega (arith, opening_size s.args.settings a period, most)),
     )
 
 rem-opening-sum : tie.Need-nonzero-rem-opening-sum
@@ -54,7 +54,7 @@ module _ (c : tie.After-opening-sum3) where
   start = c.before.before.before.before
 
   sum_is : to_z w64 (of_z w64 c.before.times.result) +ℤ to_z w64 (of_z w64 c.opening-sum3.result)
-      ≡ windowAt start.args.settings start.args.scratch.now 0
+      ≡ window_at start.args.settings start.args.scratch.now 0
   sum_is =
       let s = start in
       let l = s.args.settings.blur_length in
@@ -64,14 +64,14 @@ module _ (c : tie.After-opening-sum3) where
       (told (record { sfits = c.before.times.type-inv })
       (c.before.times.ensures ∙ ap (pos (l / period) *ℤ◌) (told (record { sfits = once.type-inv }) once.ensures)))
       (told (record { sfits = c.opening-sum3.type-inv }) c.opening-sum3.ensures)
-      ∙ periodic-window s.args.settings s.pre.0 period (l / period) (l % period) s.pre.1
+      ∙ periodic_window s.args.settings s.pre.0 period (l / period) (l % period) s.pre.1
       (sym (div-add-mod' l period))
 
 add-result : tie.Need-overflow-add-result
-add-result c = let s = start c in fits-as (sum_is c) (window-fits s.args.settings s.pre.0 0)
+add-result c = let s = start c in fits_as (sum_is c) (window_fits s.args.settings s.pre.0 0)
 
 returns-2 : tie.Need-returns-2
-returns-2 c = let s = start c in held (sum_is c) (window-fits s.args.settings s.pre.0 0)
+returns-2 c = let s = start c in held (sum_is c) (window_fits s.args.settings s.pre.0 0)
 
 pub periodic-window-spec : {M : Type 1} → statement M
 periodic-window-spec =

@@ -8,7 +8,7 @@ use lib.IntN.{pos, nat_abs, ◌*ℤ◌}
 use mir.Syntax.{w64}
 use mir.Val.{SFits, to_z, of_z}
 use mir.Facts.{to_z-of_z}
-use Rattle.numbers.proofs.Int.Machine.{fits-as, held, sfits-mul}
+use Rattle.numbers.proofs.Int.Machine.{fits_as, held, sfits_mul}
 use Rattle.line.proofs.KernelSum.{told}
 use Rattle.line.proofs.window.times.Statement.{statement}
 use Rattle.line.proofs.window.times.Tie as tie
@@ -24,10 +24,10 @@ product c = ap₂ ◌*ℤ◌ (told (record { sfits = c.signed.type-inv }) c.sign
 fits : (c : tie.After-signed) → SFits w64 (pos c.before.args.count *ℤ c.before.args.v)
 fits c =
     let h : nat_abs c.before.args.v ≤ 2 ^ 51 = omega (arith, c.before.requires.1) in
-    sfits-mul (pos c.before.args.count) c.before.args.v (omega (arith, mul-le-mul c.before.requires.0 h))
+    sfits_mul (pos c.before.args.count) c.before.args.v (omega (arith, mul-le-mul c.before.requires.0 h))
 
 mul-result : tie.Need-overflow-mul-result
-mul-result c = fits-as (product c) (fits c)
+mul-result c = fits_as (product c) (fits c)
 
 returns : tie.Need-returns
 returns c = held (product c) (fits c)

@@ -3,7 +3,7 @@ use borrow.Author.Rules.{rules}
 use native.Mathlib.Nat.{le-add_right}
 use native.Mathlib.Omega.{arith}
 use mir.Facts.{Fits-le}
-use Rattle.numbers.proofs.Words.{column_fits, middle-fits, next_fits, upper_fits, product-words}
+use Rattle.numbers.proofs.Words.{column_fits, middle_fits, next_fits, upper_fits, product_words}
 use Rattle.numbers.proofs.wide.wide_product.Statement.{statement}
 use Rattle.numbers.proofs.wide.wide_product.Tie as tie
 
@@ -14,7 +14,7 @@ mul-t : tie.Need-overflow-mul-t
 mul-t c = column_fits (omega arith) (omega arith)
 
 add-t : tie.Need-overflow-add-t
-add-t c = middle-fits c.args.u c.args.v c.ranges.u.fits c.ranges.v.fits
+add-t c = middle_fits c.args.u c.args.v c.ranges.u.fits c.ranges.v.fits
 
 mul-w1 : tie.Need-overflow-mul-w1
 mul-w1 c = column_fits (omega arith) (omega arith)
@@ -38,7 +38,7 @@ add-t18 : tie.Need-overflow-add-t18
 add-t18 c = search rules
 
 returns : tie.Need-returns
-returns c = product-words c.args.u c.args.v
+returns c = product_words c.args.u c.args.v
 
 pub wide-product-spec : {M : Type 1} → statement M
 wide-product-spec =

@@ -1,6 +1,6 @@
 -- `pgm::header::field_at` meets its contract.
 use borrow.Author.Rules.{rules}
-use Rattle.pgm.proofs.Fields.{field-no-gap, field-no-digit, field_found}
+use Rattle.pgm.proofs.Fields.{field_no_gap, field_no_digit, field_found}
 use Rattle.pgm.proofs.header.field_at.Statement.{statement}
 use Rattle.pgm.proofs.header.field_at.Tie as tie
 
@@ -8,7 +8,7 @@ skip-gaps-requires : tie.Need-skip-gaps-requires
 skip-gaps-requires c κs = search rules
 
 returns : tie.Need-returns
-returns c = field-no-gap c.before.before.before.requires c.before.skip-gaps.ensures c.if1.true
+returns c = field_no_gap c.before.before.before.requires c.before.skip-gaps.ensures c.if1.true
 
 number-at-requires : tie.Need-number-at-requires
 number-at-requires c κs = c.before.skip-gaps.ensures.within
@@ -16,7 +16,7 @@ number-at-requires c κs = c.before.skip-gaps.ensures.within
 returns-2 : tie.Need-returns-2
 returns-2 c =
     let gaps = c.before.before.before.before in
-    field-no-digit gaps.before.before.requires gaps.skip-gaps.ensures c.before.before.before.if1.false
+    field_no_digit gaps.before.before.requires gaps.skip-gaps.ensures c.before.before.before.if1.false
     c.before.before.number_at.ensures c.if2.true
 
 returns-3 : tie.Need-returns-3

@@ -1,11 +1,11 @@
 -- `pgm::header::is_marked` meets its contract.
 use borrow.Author.Rules.{rules}
-use Rattle.pgm.proofs.Headers.{short-unmarked}
+use Rattle.pgm.proofs.Headers.{short_unmarked}
 use Rattle.pgm.proofs.header.is_marked.Statement.{statement}
 use Rattle.pgm.proofs.header.is_marked.Tie as tie
 
 returns : tie.Need-returns
-returns c = short-unmarked c.before.args.file.now c.if1.true
+returns c = short_unmarked c.before.args.file.now c.if1.true
 
 shared-slice-read-result : tie.Need-shared-slice-read-result
 shared-slice-read-result c = search rules

@@ -2,7 +2,7 @@
 use borrow.Author.Rules.{rules}
 use borrow.Author.Tests.{not-true, not-false}
 use mathlib.Core.Path.{sym, ◌∙◌}
-use Rattle.pgm.proofs.Headers.{last_none, last-other, last-white}
+use Rattle.pgm.proofs.Headers.{last_none, last_other, last_white}
 use Rattle.pgm.proofs.header.last_at.Statement.{statement}
 use Rattle.pgm.proofs.header.last_at.Tie as tie
 
@@ -17,7 +17,7 @@ is-white-requires c κs = search rules
 
 returns-2 : tie.Need-returns-2
 returns-2 c =
-    last-other _ _ _ _ c.before.before.before.if1.false
+    last_other _ _ _ _ c.before.before.before.if1.false
     (sym c.before.is_white.ensures ∙ not-true _ c.if2.true)
 
 add-t6 : tie.Need-overflow-add-t6
@@ -25,7 +25,7 @@ add-t6 c = search rules
 
 returns-3 : tie.Need-returns-3
 returns-3 c =
-    last-white _ _ _ _ c.before.before.before.if1.false
+    last_white _ _ _ _ c.before.before.before.if1.false
     (sym c.before.is_white.ensures ∙ not-false _ c.if2.false)
 
 pub last-at-spec : {M : Type 1} → statement M

@@ -6,12 +6,12 @@ use mathlib.Core.Path.{◌≡◌, refl, sym, ◌∙◌}
 use Prim.Native.Nat.{◌-◌, ◌≤◌}
 use native.Mathlib.Omega.{arith}
 use lib.ListN.{length, get_or, drop}
-use Rattle.pgm.specs.Form.{isDigit, onFrom, value_of}
-use Rattle.pgm.specs.Read.{digitsOf, behindDigits}
+use Rattle.pgm.specs.Form.{is_digit, on_from, value_of}
+use Rattle.pgm.specs.Read.{digits_of, behind_digits}
 use Rattle.pgm.specs.Places.{cut}
-use Rattle.pgm.proofs.Bytes.{digit-bounds}
-use Rattle.pgm.proofs.Reading.{digits-on, digits-stop, digits-end, behind-on, behind-stop, behind-end}
-use Rattle.pgm.proofs.Reading.{cut-is, cut_most, cut_digit, cut-done}
+use Rattle.pgm.proofs.Bytes.{digit_bounds}
+use Rattle.pgm.proofs.Reading.{digits_on, digits_stop, digits_end, behind_on, behind_stop, behind_end}
+use Rattle.pgm.proofs.Reading.{cut_is, cut_most, cut_digit, cut_done}
 use Rattle.pgm.proofs.header.number_at.Statement.{statement}
 use Rattle.pgm.proofs.header.number_at.Tie as tie
 
@@ -19,8 +19,8 @@ abbrev invariant-loop : tie.invariant-loop
 invariant-loop file start value₀ at₀ value at =
     (at ≤ length file)
     × (value ≤ 1025)
-    × (cut (onFrom value (digitsOf (drop at file))) ≡ cut (value_of (digitsOf (drop start file))))
-    × (behindDigits (drop at file) ≡ behindDigits (drop start file))
+    × (cut (on_from value (digits_of (drop at file))) ≡ cut (value_of (digits_of (drop start file))))
+    × (behind_digits (drop at file) ≡ behind_digits (drop start file))
 
 abbrev decreases-loop : tie.decreases-loop
 decreases-loop file start value₀ at₀ value at = length file - at
@@ -40,11 +40,11 @@ returns c =
     let below = c.before.before.before.loop-test.true in
     let other = sym c.before.is_digit.ensures ∙ not-true _ c.if1.true in
     record {
-      value = cut-done turn.loop.value _ turn.loop.invariant.1 (digits-stop _ turn.loop.at below other)
+      value = cut_done turn.loop.value _ turn.loop.invariant.1 (digits_stop _ turn.loop.at below other)
           ∙ turn.loop.invariant.2;
       behind = record {
         within = turn.loop.invariant.0;
-        dropped = behind-stop _ turn.loop.at below other ∙ turn.loop.invariant.3;
+        dropped = behind_stop _ turn.loop.at below other ∙ turn.loop.invariant.3;
       };
     }
 
@@ -53,17 +53,17 @@ mul-min-usize c = omega (arith, c.before.before.before.before.loop.invariant.1)
 
 -- the byte is a digit's
 module _ (c : tie.Else1 invariant-loop decreases-loop) where
-  digit : isDigit (get_or c.before.before.before.before.before.before.args.file.now
+  digit : is_digit (get_or c.before.before.before.before.before.before.args.file.now
       c.before.before.before.before.loop.at 0) ≡ true
   digit = sym c.before.is_digit.ensures ∙ not-false _ c.if1.false
 
   digit-least : 48 ≤ get_or c.before.before.before.before.before.before.args.file.now
       c.before.before.before.before.loop.at 0
-  digit-least = (digit-bounds _ digit).0
+  digit-least = (digit_bounds _ digit).0
 
   digit-most : get_or c.before.before.before.before.before.before.args.file.now
       c.before.before.before.before.loop.at 0 ≤ 57
-  digit-most = (digit-bounds _ digit).1
+  digit-most = (digit_bounds _ digit).1
 
 sub-min-usize : tie.Need-overflow-sub-min-usize invariant-loop decreases-loop
 sub-min-usize c = digit-least c
@@ -87,12 +87,12 @@ loop-again : tie.Need-loop-preserved invariant-loop decreases-loop
 loop-again c =
     let turn = c.before.before.before.before.before in
     let below = c.before.before.before.before.loop-test.true in
-    let is = c.min-usize.ensures ∙ sym (cut-is _) in (
+    let is = c.min-usize.ensures ∙ sym (cut_is _) in (
       omega (arith, below),
       rw is (cut_most _),
-      rw is (cut_digit turn.loop.value _ _ _ (digits-on _ turn.loop.at below (digit c.before)))
+      rw is (cut_digit turn.loop.value _ _ _ (digits_on _ turn.loop.at below (digit c.before)))
           ∙ turn.loop.invariant.2,
-      behind-on _ turn.loop.at below (digit c.before) ∙ turn.loop.invariant.3,
+      behind_on _ turn.loop.at below (digit c.before) ∙ turn.loop.invariant.3,
     )
 
 returns-2 : tie.Need-returns-2 invariant-loop decreases-loop
@@ -100,12 +100,12 @@ returns-2 c =
     let turn = c.before in
     let within = turn.loop.invariant.0 in
     record {
-      value = cut-done turn.loop.value _ turn.loop.invariant.1
-          (digits-end _ turn.loop.at within c.loop-test.false)
+      value = cut_done turn.loop.value _ turn.loop.invariant.1
+          (digits_end _ turn.loop.at within c.loop-test.false)
           ∙ turn.loop.invariant.2;
       behind = record {
         within = within;
-        dropped = behind-end _ turn.loop.at within c.loop-test.false ∙ turn.loop.invariant.3;
+        dropped = behind_end _ turn.loop.at within c.loop-test.false ∙ turn.loop.invariant.3;
       };
     }
 

@@ -7,11 +7,11 @@ use mathlib.Core.Path.{◌≡◌, refl, sym, ◌∙◌}
 use Prim.Native.Nat.{ℕ}
 use lib.ListN.{drop}
 use Rattle.image.specs.Call.{accepts}
-use Rattle.pgm.specs.Read.{isMarked, Read, readField}
+use Rattle.pgm.specs.Read.{is_marked, Read, read_field}
 use Rattle.pgm.specs.Places.{Behind, ReadAt}
-use Rattle.pgm.proofs.Fields.{read-missing, read_number}
-use Rattle.pgm.proofs.Headers.{marked-long, header-unmarked, header-no-width, header-no-height}
-use Rattle.pgm.proofs.Headers.{header-no-maximum, header-fields, header-last}
+use Rattle.pgm.proofs.Fields.{read_missing, read_number}
+use Rattle.pgm.proofs.Headers.{marked_long, header_unmarked, header_no_width, header_no_height}
+use Rattle.pgm.proofs.Headers.{header_no_maximum, header_fields, header_last}
 use Rattle.pgm.proofs.header.read_header.Statement.{statement}
 use Rattle.pgm.proofs.header.read_header.Tie as tie
 
@@ -19,17 +19,17 @@ is-marked-requires : tie.Need-is-marked-requires
 is-marked-requires c κs = search rules
 
 returns : tie.Need-returns
-returns c = header-unmarked _ (sym c.before.is-marked.ensures ∙ not-true _ c.if1.true)
+returns c = header_unmarked _ (sym c.before.is-marked.ensures ∙ not-true _ c.if1.true)
 
 module _ (c : tie.Else1) where
   abbrev file : List ℕ
   file = c.before.before.before.args.file.now
 
-  marked : isMarked file ≡ true
+  marked : is_marked file ≡ true
   marked = sym c.before.is-marked.ensures ∙ not-false _ c.if1.false
 
   behind-mark : Behind file 2 (drop 2 file)
-  behind-mark = record { within = marked-long file marked; dropped = refl }
+  behind-mark = record { within = marked_long file marked; dropped = refl }
 
 field-at-requires : tie.Need-field-at-requires
 field-at-requires c κs = (behind-mark c).within
@@ -42,7 +42,7 @@ module _ (c : tie.After-known-told) where
   abbrev start₁ : tie.Else1
   start₁ = c.before.before.before.before
 
-  width : (r : Read) × ((readField (drop 2 (file start₁)) ≡ accepts r)
+  width : (r : Read) × ((read_field (drop 2 (file start₁)) ≡ accepts r)
       × ReadAt (file start₁) r c.before.width.given.0.0)
   width = read_number (behind-mark start₁) c.before.before.before.field_at.ensures c.before.width.given.1
 
@@ -57,7 +57,7 @@ module _ (c : tie.After-known-told2) where
   abbrev told₁ : tie.After-known-told
   told₁ = c.before.before.before.before
 
-  height : (r : Read) × ((readField (width told₁).0.rest ≡ accepts r)
+  height : (r : Read) × ((read_field (width told₁).0.rest ≡ accepts r)
       × ReadAt (file (start₁ told₁)) r c.before.height.given.0.0)
   height =
       read_number (width told₁).1.1.behind
@@ -74,7 +74,7 @@ module _ (c : tie.After-known-told3) where
   abbrev told₂ : tie.After-known-told2
   told₂ = c.before.before.before.before
 
-  maximum : (r : Read) × ((readField (height told₂).0.rest ≡ accepts r)
+  maximum : (r : Read) × ((read_field (height told₂).0.rest ≡ accepts r)
       × ReadAt (file (start₁ (told₁ told₂))) r c.before.maximum.given.0.0)
   maximum =
       read_number (height told₂).1.1.behind
@@ -98,8 +98,8 @@ returns-2 c =
     let h = height (told₂ c.before) in
     let w = width (told₁ (told₂ c.before)) in
     let s = start₁ (told₁ (told₂ c.before)) in
-    rw (c.last-at.ensures, header-fields (file s) (marked s) w.1.0 h.1.0 m.1.0)
-    (header-last (file s) w.1.1 h.1.1 m.1.1)
+    rw (c.last-at.ensures, header_fields (file s) (marked s) w.1.0 h.1.0 m.1.0)
+    (header_last (file s) w.1.1 h.1.1 m.1.1)
 
 returns-3 : tie.Need-returns-3
 returns-3 c =
@@ -107,8 +107,8 @@ returns-3 c =
     let h = height t in
     let w = width (told₁ t) in
     let s = start₁ (told₁ t) in
-    header-no-maximum (file s) (marked s) w.1.0 h.1.0
-    (read-missing h.1.1.behind c.before.before.field-at3.ensures
+    header_no_maximum (file s) (marked s) w.1.0 h.1.0
+    (read_missing h.1.1.behind c.before.before.field-at3.ensures
     c.enum_told.given.1)
 
 returns-4 : tie.Need-returns-4
@@ -116,15 +116,15 @@ returns-4 c =
     let t = c.before.before.before in
     let w = width t in
     let s = start₁ t in
-    header-no-height (file s) (marked s) w.1.0
-    (read-missing w.1.1.behind c.before.before.field-at2.ensures
+    header_no_height (file s) (marked s) w.1.0
+    (read_missing w.1.1.behind c.before.before.field-at2.ensures
     c.enum-told2.given.1)
 
 returns-5 : tie.Need-returns-5
 returns-5 c =
     let s = c.before.before.before in
-    header-no-width (file s) (marked s)
-    (read-missing (behind-mark s) c.before.before.field_at.ensures c.enum-told3.given.1)
+    header_no_width (file s) (marked s)
+    (read_missing (behind-mark s) c.before.before.field_at.ensures c.enum-told3.given.1)
 
 pub read-header-spec : {M : Type 1} → statement M
 read-header-spec =

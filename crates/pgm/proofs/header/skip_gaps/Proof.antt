@@ -6,14 +6,14 @@ use mathlib.Core.Path.{◌≡◌, refl, sym, ◌∙◌}
 use Prim.Native.Nat.{◌-◌, ◌≤◌}
 use native.Mathlib.Omega.{arith}
 use lib.ListN.{length, drop}
-use Rattle.pgm.specs.Read.{behindGaps}
-use Rattle.pgm.proofs.Reading.{gaps-on, gaps-stop, gaps-end}
+use Rattle.pgm.specs.Read.{behind_gaps}
+use Rattle.pgm.proofs.Reading.{gaps_on, gaps_stop, gaps_end}
 use Rattle.pgm.proofs.header.skip_gaps.Statement.{statement}
 use Rattle.pgm.proofs.header.skip_gaps.Tie as tie
 
 abbrev invariant-loop : tie.invariant-loop
 invariant-loop file start at₀ comment₀ at comment =
-    (at ≤ length file) × (behindGaps comment (drop at file) ≡ behindGaps false (drop start file))
+    (at ≤ length file) × (behind_gaps comment (drop at file) ≡ behind_gaps false (drop start file))
 
 abbrev decreases-loop : tie.decreases-loop
 decreases-loop file start at₀ comment₀ at comment = length file - at
@@ -34,7 +34,7 @@ returns c =
     record {
       within = turn.loop.invariant.0;
       dropped =
-          gaps-stop _ turn.loop.at c.before.before.before.loop-test.true turn.loop.comment
+          gaps_stop _ turn.loop.at c.before.before.before.loop-test.true turn.loop.comment
           (sym skips.ensures ∙ not-true _ c.if1.true)
           ∙ turn.loop.invariant.1;
     }
@@ -54,7 +54,7 @@ loop-again c =
     let skips = c.before.before.skips in (
       omega (arith, c.before.before.before.before.loop-test.true),
       rw c.comments.ensures
-          (gaps-on _ turn.loop.at c.before.before.before.before.loop-test.true turn.loop.comment
+          (gaps_on _ turn.loop.at c.before.before.before.before.loop-test.true turn.loop.comment
           (sym skips.ensures ∙ not-false _ c.before.if1.false))
           ∙ turn.loop.invariant.1,
     )
@@ -65,7 +65,7 @@ returns-2 c =
     record {
       within = turn.loop.invariant.0;
       dropped =
-          gaps-end _ turn.loop.at turn.loop.invariant.0 c.loop-test.false turn.loop.comment
+          gaps_end _ turn.loop.at turn.loop.invariant.0 c.loop-test.false turn.loop.comment
           ∙ turn.loop.invariant.1;
     }
 

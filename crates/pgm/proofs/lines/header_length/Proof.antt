@@ -2,7 +2,7 @@
 use borrow.Author.Rules.{rules}
 use mathlib.Core.Path.{sym}
 use native.Mathlib.Omega.{arith}
-use Rattle.pgm.proofs.Digits.{count_most, length-header}
+use Rattle.pgm.proofs.Digits.{count_most, length_header}
 use Rattle.pgm.proofs.lines.header_length.Statement.{statement}
 use Rattle.pgm.proofs.lines.header_length.Tie as tie
 
@@ -27,7 +27,7 @@ add-result-2 c =
     )
 
 returns : tie.Need-returns
-returns c = rw (c.before.digit-count.ensures, c.digit-count2.ensures) (sym (length-header _ _))
+returns c = rw (c.before.digit-count.ensures, c.digit-count2.ensures) (sym (length_header _ _))
 
 pub header-length-spec : {M : Type 1} → statement M
 header-length-spec =

@@ -6,7 +6,7 @@ use Prim.Native.Nat.{◌+◌, ◌-◌, ◌%◌, ◌≤◌}
 use native.Mathlib.Omega.{arith}
 use lib.ListN.{length, drop, length-set}
 use Rattle.pgm.specs.Write.{digits}
-use Rattle.pgm.proofs.Digits.{digit-small, digits-none, digits_step, digits-done}
+use Rattle.pgm.proofs.Digits.{digit_small, digits_none, digits_step, digits_done}
 use Rattle.pgm.proofs.lines.put_digits.Statement.{statement}
 use Rattle.pgm.proofs.lines.put_digits.Tie as tie
 
@@ -20,16 +20,16 @@ abbrev decreases-loop : tie.decreases-loop
 decreases-loop n out₀ rest₀ at₀ out rest at = at
 
 loop-holds : tie.Need-loop-init invariant-loop decreases-loop
-loop-holds c = (omega arith, refl, digits-none c.args.out.now c.args.n)
+loop-holds c = (omega arith, refl, digits_none c.args.out.now c.args.n)
 
 sub_at : tie.Need-overflow-sub-at invariant-loop decreases-loop
 sub_at c = search rules
 
 cast-out : tie.Need-overflow-cast-out invariant-loop decreases-loop
-cast-out c = omega (arith, digit-small c.before.loop.rest)
+cast-out c = omega (arith, digit_small c.before.loop.rest)
 
 add-out : tie.Need-overflow-add-out invariant-loop decreases-loop
-add-out c = omega (arith, digit-small c.before.loop.rest)
+add-out c = omega (arith, digit_small c.before.loop.rest)
 
 slice-write-out : tie.Need-slice-write-out invariant-loop decreases-loop
 slice-write-out c = omega (arith, c.loop-test.true)
@@ -52,7 +52,7 @@ same_length c = c.before.loop.invariant.1
 returns : tie.Need-returns invariant-loop decreases-loop
 returns c =
     let k = c.before.loop in
-    digits-done k.out k.at k.rest c.loop-test.false ∙ k.invariant.2
+    digits_done k.out k.at k.rest c.loop-test.false ∙ k.invariant.2
 
 pub put-digits-spec : {M : Type 1} → statement M
 put-digits-spec =

@@ -4,9 +4,9 @@ use mathlib.Core.Path.{◌≡◌, ap}
 use Prim.Native.Nat.{ℕ, ◌+◌, ◌<◌}
 use native.Mathlib.Omega.{arith}
 use lib.ListN.{length}
-use Rattle.pgm.specs.Write.{digitCount}
-use Rattle.pgm.proofs.Appending.{still-below, line-put}
-use Rattle.pgm.proofs.Digits.{length-line}
+use Rattle.pgm.specs.Write.{digit_count}
+use Rattle.pgm.proofs.Appending.{still_below, line_put}
+use Rattle.pgm.proofs.Digits.{length_line}
 use Rattle.pgm.proofs.lines.put_number.Statement.{statement}
 use Rattle.pgm.proofs.lines.put_number.Tie as tie
 
@@ -16,11 +16,11 @@ digit-count-requires c κs = search rules
 -- the digits end before the last byte
 module _ (c : tie.After-digit-count) where
   is : c.before.before.args.at + c.digit-count.result
-      ≡ c.before.before.args.at + digitCount c.before.before.args.n
+      ≡ c.before.before.args.at + digit_count c.before.before.args.n
   is = ap (λ (k : ℕ). c.before.before.args.at + k) c.digit-count.ensures
 
   below : c.before.before.args.at + c.digit-count.result < length c.before.before.args.out.now
-  below = omega (arith, is, length-line c.before.before.args.n, c.before.before.requires)
+  below = omega (arith, is, length_line c.before.before.args.n, c.before.before.requires)
 
 add-end : tie.Need-overflow-add-end
 add-end c = omega (arith, below c)
@@ -40,7 +40,7 @@ put-digits-requires c κs = search rules
 slice-write-out : tie.Need-slice-write-out
 slice-write-out c =
     let k = c.before.before.before.before in
-    still-below _ _ _ _ _ (is k) (below k) c.before.before.put-digits.ensures
+    still_below _ _ _ _ _ (is k) (below k) c.before.before.put-digits.ensures
 
 add-result : tie.Need-overflow-add-result
 add-result c = omega (arith, below c.before.before.before.before)
@@ -51,7 +51,7 @@ same_length c = search rules
 returns : tie.Need-returns
 returns c =
     let k = c.before.before.before.before in
-    line-put _ _ _ _ _ (is k) (below k) c.before.before.put-digits.ensures
+    line_put _ _ _ _ _ (is k) (below k) c.before.before.put-digits.ensures
 
 pub put-number-spec : {M : Type 1} → statement M
 put-number-spec =

@@ -2,8 +2,8 @@
 use mathlib.Core.Path.{sym, ◌∙◌}
 use native.Mathlib.Nat.{le_of_eq}
 use Rattle.image.specs.Picture.{pixel}
-use Rattle.image.proofs.Refusal.{tight-laid}
-use Rattle.image.proofs.Tight.{painted-list}
+use Rattle.image.proofs.Refusal.{tight_laid}
+use Rattle.image.proofs.Tight.{painted_list}
 use borrow.Author.Rules.{rules}
 use Rattle.pgm.proofs.lines.put_pixels.Statement.{statement}
 use Rattle.pgm.proofs.lines.put_pixels.Tie as tie
@@ -13,7 +13,7 @@ copy-rows-requires c κs =
     let s = c.before.before.before in
     let l = s.requires.0 in (
       l,
-      tight-laid _ _ _ l.width-pos l.width-most l.height-pos l.height-most (le_of_eq (sym s.requires.1)),
+      tight_laid _ _ _ l.width_pos l.width_most l.height_pos l.height_most (le_of_eq (sym s.requires.1)),
     )
 
 same_length : tie.Need-same-length
@@ -23,7 +23,7 @@ returns : tie.Need-returns
 returns c =
     let s = c.before.before.before.before.before.before in
     let copied = c.before.before.copy-rows.ensures in
-    painted-list (pixel s.args.«data».now s.args.stride) s.args.width s.args.height copied
+    painted_list (pixel s.args.«data».now s.args.stride) s.args.width s.args.height copied
     (copied.same_length ∙ s.requires.1)
 
 pub put-pixels-spec : {M : Type 1} → statement M

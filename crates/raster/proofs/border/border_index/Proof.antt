@@ -7,7 +7,7 @@ use mathlib.Core.Logic.{◌⊎◌, ⊎_elim}
 use mathlib.Core.Path.{◌≡◌, refl, ap, ◌∙◌}
 use Prim.Native.Nat.{ℕ}
 use native.Mathlib.Omega.{arith}
-use Rattle.raster.specs.Border.{borderCode, borderMap}
+use Rattle.raster.specs.Border.{border_code, border_map}
 use Rattle.raster.specs.declared.border.LineBorderMode.{LineBorderMode}
 use Rattle.raster.specs.declared.border.LineBorderMode.TheVariants.{Replicate, Reflect, Constant, Wrap}
 use Rattle.raster.specs.declared.border.BorderSample.TheVariants.{Inside}
@@ -35,17 +35,17 @@ periodic-place-requires : tie.Need-periodic-place-requires
 periodic-place-requires c κs = search rules
 
 returns : tie.Need-returns
-unfolding borderMap
+unfolding border_map
 returns c = rw c.before.enum_told.given.1 (ap Inside c.nearer-end.ensures)
 
 returns-2 : tie.Need-returns-2
-unfolding borderMap
+unfolding border_map
 returns-2 c = rw c.before.before.border.given.1 c.constant-sample.ensures
 
 -- of the variants 1 and 3
 periodic-map : (b : LineBorderMode) (n : ℕ) (p : ℤ) → (tag_of the_type b ≡ 1) ⊎ (tag_of the_type b ≡ 3)
-    → Inside (periodic n (eqb (borderCode b) 3) p) ≡ borderMap b n p
-unfolding borderMap
+    → Inside (periodic n (eqb (border_code b) 3) p) ≡ border_map b n p
+unfolding border_map
 periodic-map Replicate n p k = absurd (⊎_elim (λ e. omega (arith, e)) (λ e. omega (arith, e)) k)
 periodic-map Reflect n p k = refl
 periodic-map (Constant v) n p k = absurd (⊎_elim (λ e. omega (arith, e)) (λ e. omega (arith, e)) k)

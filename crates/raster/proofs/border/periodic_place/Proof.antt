@@ -6,15 +6,15 @@ use Prim.Native.Nat.{ℕ, ◌-◌, ◌<◌}
 use native.Mathlib.Omega.{arith}
 use lib.IntN.{ℤ, sub_ℕ}
 use Rattle.raster.specs.Border.{modℤ}
-use Rattle.raster.proofs.BorderMap.{modℤ-lt, longPeriod, periodic-low}
-use Rattle.raster.proofs.BorderMap.{wrapped-high, reflected-high}
+use Rattle.raster.proofs.BorderMap.{modℤ-lt, long_period, periodic_low}
+use Rattle.raster.proofs.BorderMap.{wrapped_high, reflected_high}
 use Rattle.raster.proofs.border.periodic_place.Statement.{statement}
 use Rattle.raster.proofs.border.periodic_place.Tie as tie
 
 long-period-requires : tie.Need-long-period-requires
 long-period-requires c κs = search rules
 
-long-some : (n : ℕ) (wraps : Bool) → 0 < n → 0 < longPeriod n wraps
+long-some : (n : ℕ) (wraps : Bool) → 0 < n → 0 < long_period n wraps
 long-some n true h = omega arith
 long-some n false h = omega arith
 
@@ -31,14 +31,14 @@ module _ (c : tie.After-rem-euclid) where
   abbrev place : ℤ
   place = sub_ℕ start.args.u start.args.half
 
-  rest-is : c.rem-euclid.result ≡ modℤ place (longPeriod start.args.length start.args.wraps)
+  rest-is : c.rem-euclid.result ≡ modℤ place (long_period start.args.length start.args.wraps)
   rest-is = c.rem-euclid.ensures ∙ ap (modℤ place) c.before.long-period.ensures
 
 returns : tie.Need-returns
 returns c =
     let s = start c.before in
     let e = rest-is c.before in
-    e ∙ periodic-low s.args.length s.args.wraps (place c.before) s.pre.0 (rw e at c.if1.true)
+    e ∙ periodic_low s.args.length s.args.wraps (place c.before) s.pre.0 (rw e at c.if1.true)
 
 returns-2 : tie.Need-returns-2
 returns-2 c =
@@ -46,7 +46,7 @@ returns-2 c =
     let s = start at_rest in
     let e = rest-is at_rest in
     ap (◌- s.args.length) e
-    ∙ wrapped-high s.args.length s.args.wraps (place at_rest) c.if2.true s.pre.0
+    ∙ wrapped_high s.args.length s.args.wraps (place at_rest) c.if2.true s.pre.0
     (rw e at c.before.if1.false)
 
 sub-result : tie.Need-overflow-sub-result
@@ -62,7 +62,7 @@ returns-3 c =
     let s = start at_rest in
     let e = rest-is at_rest in
     ap₂ ◌-◌ at_rest.before.long-period.ensures e
-    ∙ reflected-high s.args.length s.args.wraps (place at_rest) c.if2.false s.pre.0
+    ∙ reflected_high s.args.length s.args.wraps (place at_rest) c.if2.false s.pre.0
     (rw e at c.before.if1.false)
 
 pub periodic-place-spec : {M : Type 1} → statement M

@@ -4,7 +4,7 @@ use Prim.Native.Nat.{ℕ, ◌-◌}
 use native.Mathlib.Nat.{mod-lt}
 use native.Mathlib.Omega.{arith}
 use mathlib.Core.Path.{sym, ap, ◌∙◌}
-use Rattle.raster.proofs.BorderMap.{mod-before, mod-from}
+use Rattle.raster.proofs.BorderMap.{mod_before, mod_from}
 use Rattle.raster.proofs.border.rem_euclid.Statement.{statement}
 use Rattle.raster.proofs.border.rem_euclid.Tie as tie
 
@@ -28,13 +28,13 @@ sub-result-2 c =
 returns : tie.Need-returns
 returns c =
     let m = c.before.before.args.modulus in
-    ap (λ (k : ℕ). m - 1 - k) c.remainder.ensures ∙ sym (mod-before _ _ _ c.before.if1.true)
+    ap (λ (k : ℕ). m - 1 - k) c.remainder.ensures ∙ sym (mod_before _ _ _ c.before.if1.true)
 
 remainder-requires-2 : tie.Need-remainder-requires-2
 remainder-requires-2 c κs = search rules
 
 returns-2 : tie.Need-returns-2
-returns-2 c = c.remainder2.ensures ∙ sym (mod-from _ _ _ c.before.if1.false)
+returns-2 c = c.remainder2.ensures ∙ sym (mod_from _ _ _ c.before.if1.false)
 
 pub rem-euclid-spec : {M : Type 1} → statement M
 rem-euclid-spec =

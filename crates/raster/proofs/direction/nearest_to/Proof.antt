@@ -1,6 +1,6 @@
 -- `direction::nearest_to` meets its contract: the two parts' contracts, one after the other. Assumes nothing.
 use borrow.Author.Rules.{rules}
-use Rattle.raster.specs.Direction.{nearestTo}
+use Rattle.raster.specs.Direction.{nearest_to}
 use Rattle.raster.proofs.direction.nearest_to.Statement.{statement}
 use Rattle.raster.proofs.direction.nearest_to.Tie as tie
 
@@ -11,7 +11,7 @@ nearest-direction-requires : tie.Need-nearest-direction-requires
 nearest-direction-requires c κs = search rules
 
 returns : tie.Need-returns
-unfolding nearestTo
+unfolding nearest_to
 returns c = simp (c.nearest-direction.ensures, c.before.half-turn.ensures)
 
 pub nearest-to-spec : {M : Type 1} → statement M

@@ -1,6 +1,6 @@
 -- `lines::start_row` meets its contract: each arm by the variant that it is for and the test in it. Assumes nothing.
 use borrow.Author.Tests.{lt-ltb, le-ltb}
-use Rattle.raster.specs.Lines.{startRow}
+use Rattle.raster.specs.Lines.{start_row}
 use borrow.Author.Rules.{rules}
 use Rattle.raster.proofs.lines.start_row.Statement.{statement}
 use Rattle.raster.proofs.lines.start_row.Tie as tie
@@ -24,27 +24,27 @@ add-result-2 : tie.Need-overflow-add-result-2
 add-result-2 c = search rules
 
 returns : tie.Need-returns
-unfolding startRow
+unfolding start_row
 returns c = simp c.enum_told.given.1
 
 returns-2 : tie.Need-returns-2
-unfolding startRow
+unfolding start_row
 returns-2 c = simp (c.before.enum-told2.given.1, lt-ltb _ _ c.if1.true)
 
 returns-3 : tie.Need-returns-3
-unfolding startRow
+unfolding start_row
 returns-3 c = simp (c.before.enum-told2.given.1, le-ltb _ _ c.if1.false)
 
 returns-4 : tie.Need-returns-4
-unfolding startRow
+unfolding start_row
 returns-4 c = simp c.enum-told3.given.1
 
 returns-5 : tie.Need-returns-5
-unfolding startRow
+unfolding start_row
 returns-5 c = simp (c.before.enum-told4.given.1, lt-ltb _ _ c.if2.true)
 
 returns-6 : tie.Need-returns-6
-unfolding startRow
+unfolding start_row
 returns-6 c = simp (c.before.enum-told4.given.1, le-ltb _ _ c.if2.false)
 
 pub start-row-spec : {M : Type 1} → statement M

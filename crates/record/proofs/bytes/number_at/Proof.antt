@@ -5,8 +5,8 @@ use mathlib.Core.Path.{◌≡◌, refl}
 use native.Mathlib.Nat.{le_refl, sub_self, sub-zero, zero-lt-suc, add-zero, pow-succ'}
 use native.Mathlib.Omega.{arith}
 use lib.ListN.{get_or}
-use Rattle.record.specs.Bytes.{littleEndian, number_at}
-use Rattle.record.proofs.LittleEndian.{number-turn, within_word}
+use Rattle.record.specs.Bytes.{little_endian, number_at}
+use Rattle.record.proofs.LittleEndian.{number_turn, within_word}
 use Rattle.record.proofs.bytes.number_at.Statement.{statement}
 use Rattle.record.proofs.bytes.number_at.Tie as tie
 
@@ -18,7 +18,7 @@ abbrev decreases-loop : tie.decreases-loop
 decreases-loop bytes at count value₀ left₀ value left = left
 
 loop-holds : tie.Need-loop-init invariant-loop decreases-loop
-unfolding littleEndian
+unfolding little_endian
 loop-holds c = rw (sub_self c.args.count) (le_refl c.args.count, refl, zero-lt-suc 0)
 
 sub-left : tie.Need-overflow-sub-left invariant-loop decreases-loop
@@ -49,7 +49,7 @@ module _ (c : tie.After-shared-slice-known invariant-loop decreases-loop) where
   turn =
       let a = c.before.before.before.args in
       let l = c.before.before.loop in
-      number-turn a.bytes.now a.at a.count l.left l.value (omega arith) (omega arith) (omega arith) byte
+      number_turn a.bytes.now a.at a.count l.left l.value (omega arith) (omega arith) (omega arith) byte
       l.invariant.1 l.invariant.2
 
 cast-value : tie.Need-overflow-cast-value invariant-loop decreases-loop

@@ -6,7 +6,7 @@ use native.Mathlib.Omega.{arith}
 use lib.ListN.{length, length-set}
 use lib.Seq.{sets}
 use Rattle.record.specs.Bytes.{bytes_of}
-use Rattle.record.proofs.LittleEndian.{put-turn}
+use Rattle.record.proofs.LittleEndian.{put_turn}
 use Rattle.record.proofs.bytes.put_number.Statement.{statement}
 use Rattle.record.proofs.bytes.put_number.Tie as tie
 
@@ -43,7 +43,7 @@ loop-again c =
     let l = c.before.loop in (
       omega arith,
       simp length-set (omega arith),
-      put-turn l.bytes a.at a.count l.done l.rest c.loop-test.true ∙ l.invariant.2,
+      put_turn l.bytes a.at a.count l.done l.rest c.loop-test.true ∙ l.invariant.2,
     )
 
 same_length : tie.Need-same-length invariant-loop decreases-loop

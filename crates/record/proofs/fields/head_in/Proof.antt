@@ -1,6 +1,6 @@
 -- `record::fields::head_in` meets its contract.
 use borrow.Author.Rules.{rules}
-use Rattle.record.specs.Fields.{decodedHead}
+use Rattle.record.specs.Fields.{decoded_head}
 use Rattle.record.proofs.fields.head_in.Statement.{statement}
 use Rattle.record.proofs.fields.head_in.Tie as tie
 
@@ -20,7 +20,7 @@ shared-slice-read-t7 : tie.Need-shared-slice-read-t7
 shared-slice-read-t7 c = search rules
 
 returns : tie.Need-returns
-unfolding decodedHead
+unfolding decoded_head
 returns c = rw (c.before.before.number_at.ensures.0, c.before.number-at2.ensures.0)
 
 pub head-in-spec : {M : Type 1} → statement M

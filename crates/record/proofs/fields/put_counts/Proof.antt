@@ -1,7 +1,7 @@
 -- `record::fields::put_counts` meets its contract.
 use borrow.Author.Rules.{rules}
 use Rattle.record.specs.Bytes.{bytes_of}
-use Rattle.record.specs.Fields.{countBytes}
+use Rattle.record.specs.Fields.{count_bytes}
 use Rattle.record.proofs.fields.put_counts.Statement.{statement}
 use Rattle.record.proofs.fields.put_counts.Tie as tie
 
@@ -18,7 +18,7 @@ same_length : tie.Need-same-length
 same_length c = search rules
 
 returns : tie.Need-returns
-unfolding countBytes bytes_of
+unfolding count_bytes bytes_of
 returns c =
     let third = c.before.before in
     let second = third.before.before.before.before in

@@ -1,7 +1,7 @@
 -- `record::fields::put_doubles` meets its contract.
 use borrow.Author.Rules.{rules}
 use Rattle.record.specs.Bytes.{bytes_of}
-use Rattle.record.specs.Fields.{doubleBytes}
+use Rattle.record.specs.Fields.{double_bytes}
 use Rattle.record.proofs.fields.put_doubles.Statement.{statement}
 use Rattle.record.proofs.fields.put_doubles.Tie as tie
 
@@ -15,7 +15,7 @@ same_length : tie.Need-same-length
 same_length c = search rules
 
 returns : tie.Need-returns
-unfolding doubleBytes bytes_of
+unfolding double_bytes bytes_of
 returns c =
     let second = c.before.before in
     let first = second.before.before.before.before in

@@ -2,7 +2,7 @@
 use borrow.Author.Rules.{rules}
 use Rattle.record.specs.Bytes.{bytes_of}
 use Rattle.record.specs.Fields.{encoded}
-use Rattle.record.proofs.Answer.{stored-whole}
+use Rattle.record.proofs.Answer.{stored_whole}
 use Rattle.record.proofs.fields.put_fields.Statement.{statement}
 use Rattle.record.proofs.fields.put_fields.Tie as tie
 
@@ -28,7 +28,7 @@ returns c =
     let first = called.before.before in
     let start = first.before.before.before in
     rw (third.put-doubles.ensures, second.put-counts.ensures, first.put-head.ensures)
-    (stored-whole start.args.fields start.args.bytes.now start.requires)
+    (stored_whole start.args.fields start.args.bytes.now start.requires)
 
 pub put-fields-spec : {M : Type 1} → statement M
 put-fields-spec =

@@ -3,7 +3,7 @@ use borrow.Author.Rules.{rules}
 use native.Mathlib.Omega.{arith}
 use lib.ListN.{length-set}
 use Rattle.record.specs.Bytes.{bytes_of}
-use Rattle.record.specs.Fields.{headBytes}
+use Rattle.record.specs.Fields.{head_bytes}
 use Rattle.record.proofs.fields.put_head.Statement.{statement}
 use Rattle.record.proofs.fields.put_head.Tie as tie
 
@@ -29,7 +29,7 @@ same_length : tie.Need-same-length
 same_length c = simp length-set (omega arith)
 
 returns : tie.Need-returns
-unfolding headBytes bytes_of
+unfolding head_bytes bytes_of
 returns c =
     let second = c.before.before in
     let first = second.before.before.before.before in

@@ -1,9 +1,9 @@
 -- `record::limits::is_angle` meets its contract.
 use borrow.Author.Rules.{rules}
 use mathlib.Core.Path.{sym, ap, ◌∙◌}
-use Rattle.raster.specs.Direction.{isFound}
-use Rattle.record.proofs.Doubles.{finite-pattern}
-use Rattle.record.proofs.Legal.{angle-refused}
+use Rattle.raster.specs.Direction.{is_found}
+use Rattle.record.proofs.Doubles.{finite_pattern}
+use Rattle.record.proofs.Legal.{angle_refused}
 use Rattle.record.proofs.limits.is_angle.Statement.{statement}
 use Rattle.record.proofs.limits.is_angle.Tie as tie
 
@@ -12,7 +12,7 @@ is-finite-bits-requires c κs = search rules
 
 float-from-bits-from-angle : tie.Need-float-from-bits-from-angle
 float-from-bits-from-angle c =
-    finite-pattern c.before.before.args.bits (sym c.before.is-finite-bits.ensures ∙ c.if1.true)
+    finite_pattern c.before.before.args.bits (sym c.before.is-finite-bits.ensures ∙ c.if1.true)
 
 from-angle-requires : tie.Need-from-angle-requires
 from-angle-requires c κs = search rules
@@ -21,11 +21,11 @@ is-found-requires : tie.Need-is-found-requires
 is-found-requires c κs = search rules
 
 returns : tie.Need-returns
-returns c = c.is_found.ensures ∙ ap isFound c.before.from-angle.ensures
+returns c = c.is_found.ensures ∙ ap is_found c.before.from-angle.ensures
 
 returns-2 : tie.Need-returns-2
 returns-2 c =
-    sym (angle-refused c.before.before.args.bits (sym c.before.is-finite-bits.ensures ∙ c.if1.false))
+    sym (angle_refused c.before.before.args.bits (sym c.before.is-finite-bits.ensures ∙ c.if1.false))
 
 pub is-angle-spec : {M : Type 1} → statement M
 is-angle-spec =

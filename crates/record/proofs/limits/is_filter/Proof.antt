@@ -1,6 +1,6 @@
 -- `record::limits::is_filter` meets its contract.
 use borrow.Author.Rules.{rules}
-use Rattle.record.specs.Fields.{filterLegal}
+use Rattle.record.specs.Fields.{filter_legal}
 use Rattle.record.proofs.limits.is_filter.Statement.{statement}
 use Rattle.record.proofs.limits.is_filter.Tie as tie
 
@@ -38,21 +38,21 @@ is-unmeasured-requires-2 : tie.Need-is-unmeasured-requires-2
 is-unmeasured-requires-2 c κs = search rules
 
 returns : tie.Need-returns
-unfolding filterLegal
+unfolding filter_legal
 returns c = rw (c.before.before.enum_told.given.1, c.before.is-iterated.ensures, c.is-unmeasured.ensures)
 
 returns-2 : tie.Need-returns-2
-unfolding filterLegal
+unfolding filter_legal
 returns-2 c = rw (c.before.before.enum-told2.given.1, c.before.is-iterated2.ensures, c.is-length.ensures)
 
 returns-3 : tie.Need-returns-3
-unfolding filterLegal
+unfolding filter_legal
 returns-3 c =
     let m = c.before.before in
     rw (m.before.before.enum-told3.given.1, m.before.is-line.ensures, m.is-length2.ensures)
 
 returns-4 : tie.Need-returns-4
-unfolding filterLegal
+unfolding filter_legal
 returns-4 c =
     let m = c.before.before.before.before in
     rw (m.before.enum-told4.given.1, m.is-unmeasured2.ensures)

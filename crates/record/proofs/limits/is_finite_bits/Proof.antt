@@ -1,7 +1,7 @@
 -- `record::limits::is_finite_bits` meets its contract.
 use borrow.Author.Rules.{rules}
 use mathlib.Core.Path.{sym}
-use Rattle.record.proofs.Doubles.{nan_pattern, number-pattern}
+use Rattle.record.proofs.Doubles.{nan_pattern, number_pattern}
 use Rattle.record.proofs.limits.is_finite_bits.Statement.{statement}
 use Rattle.record.proofs.limits.is_finite_bits.Tie as tie
 
@@ -9,7 +9,7 @@ returns : tie.Need-returns
 returns c = sym (nan_pattern c.before.args.bits c.if1.true)
 
 float-from-bits-is-finite : tie.Need-float-from-bits-is-finite
-float-from-bits-is-finite c = number-pattern c.before.args.bits c.if1.false
+float-from-bits-is-finite c = number_pattern c.before.args.bits c.if1.false
 
 is-finite-requires : tie.Need-is-finite-requires
 is-finite-requires c κs = search rules

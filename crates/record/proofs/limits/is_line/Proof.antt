@@ -1,6 +1,6 @@
 -- `record::limits::is_line` meets its contract.
 use borrow.Author.Rules.{rules}
-use Rattle.record.specs.Fields.{lineLegal}
+use Rattle.record.specs.Fields.{line_legal}
 use Rattle.record.proofs.limits.is_line.Statement.{statement}
 use Rattle.record.proofs.limits.is_line.Tie as tie
 
@@ -14,7 +14,7 @@ is-estimate-requires : tie.Need-is-estimate-requires
 is-estimate-requires c κs = search rules
 
 returns : tie.Need-returns
-unfolding lineLegal
+unfolding line_legal
 returns c = rw (c.before.before.is_code.ensures, c.before.is-angle.ensures, c.is-estimate.ensures)
 
 pub is-line-spec : {M : Type 1} → statement M

@@ -2,8 +2,8 @@
 use native.Mathlib.Omega.{arith}
 use borrow.Author.Rules.{rules}
 use lib.ListN.{length-set}
-use Rattle.resize.specs.Rows.{halfAt}
-use Rattle.resize.proofs.Means.{eight-written}
+use Rattle.resize.specs.Rows.{half_at}
+use Rattle.resize.proofs.Means.{eight_written}
 use Rattle.resize.proofs.half.half_eight.Statement.{statement}
 use Rattle.resize.proofs.half.half_eight.Tie as tie
 
@@ -104,7 +104,7 @@ returns : tie.Need-returns
 returns c =
     let s = c.before.before.before.before.before.before.before.before.before.before.before in
     let a = s.args in
-    eight-written (halfAt a.above.now a.below.now) a.dst.now a.x s.requires.0
+    eight_written (half_at a.above.now a.below.now) a.dst.now a.x s.requires.0
     c.before.before.before.before.before.before.before.mean-at.ensures
     c.before.before.before.before.before.before.mean-at2.ensures
     c.before.before.before.before.before.mean-at3.ensures

@@ -3,8 +3,8 @@ use mathlib.Core.Path.{◌∙◌}
 use native.Mathlib.Omega.{arith}
 use borrow.Author.Rules.{rules}
 use lib.ListN.{length-set}
-use Rattle.resize.specs.Rows.{halfFrom}
-use Rattle.resize.proofs.Means.{first-from, next-from, eight-written}
+use Rattle.resize.specs.Rows.{half_from}
+use Rattle.resize.proofs.Means.{first_from, next_from, eight_written}
 use Rattle.resize.proofs.half.half_eight_within.Statement.{statement}
 use Rattle.resize.proofs.half.half_eight_within.Tie as tie
 
@@ -108,9 +108,9 @@ returns c =
     let s = c1.before.before.before in
     let a = s.args in
     let xs = a.s.now in
-    let next = next-from xs a.from a.stride a.to in
-    eight-written (halfFrom xs a.from a.stride a.to) xs a.to s.requires.1
-    (c1.mean-within.ensures ∙ first-from xs a.from a.stride a.to)
+    let next = next_from xs a.from a.stride a.to in
+    eight_written (half_from xs a.from a.stride a.to) xs a.to s.requires.1
+    (c1.mean_within.ensures ∙ first_from xs a.from a.stride a.to)
     (c5.before.before.before.before.before.before.mean-within2.ensures ∙ next 1)
     (c5.before.before.before.before.mean-within3.ensures ∙ next 2)
     (c5.before.before.mean-within4.ensures ∙ next 3)

@@ -3,22 +3,22 @@ use Prim.Native.Nat.{◌-◌, ◌≤◌}
 use native.Mathlib.Omega.{arith}
 use lib.ListN.{length}
 use Rattle.numbers.specs.Written.{Written, front}
-use Rattle.numbers.proofs.Places.{front-none}
-use Rattle.numbers.proofs.Written.{written_none, written-join}
-use Rattle.resize.specs.Rows.{halfAt}
-use Rattle.resize.proofs.Means.{front-join}
+use Rattle.numbers.proofs.Places.{front_none}
+use Rattle.numbers.proofs.Written.{written_none, written_join}
+use Rattle.resize.specs.Rows.{half_at}
+use Rattle.resize.proofs.Means.{front_join}
 use Rattle.resize.proofs.half.half_eights.Statement.{statement}
 use Rattle.resize.proofs.half.half_eights.Tie as tie
 
 abbrev invariant-loop : tie.invariant-loop
 invariant-loop above below dst₀ n x₀ dst x =
-    (x ≤ length dst₀) × Written 0 (front x) (halfAt above below) dst₀ dst
+    (x ≤ length dst₀) × Written 0 (front x) (half_at above below) dst₀ dst
 
 abbrev decreases-loop : tie.decreases-loop
 decreases-loop above below dst₀ n x₀ dst x = n - x
 
 loop-holds : tie.Need-loop-init invariant-loop decreases-loop
-loop-holds c = (omega arith, written_none (λ j _. front-none j))
+loop-holds c = (omega arith, written_none (λ j _. front_none j))
 
 sub-loop : tie.Need-overflow-sub-loop invariant-loop decreases-loop
 sub-loop c = omega arith
@@ -39,7 +39,7 @@ loop-less c = omega arith
 loop-again : tie.Need-loop-preserved invariant-loop decreases-loop
 loop-again c =
     let k = c.before.before.before.before.before.loop in
-    (omega arith, written-join k.invariant.1 c.before.before.half-eight.ensures (front-join k.x 8))
+    (omega arith, written_join k.invariant.1 c.before.before.half-eight.ensures (front_join k.x 8))
 
 same_length : tie.Need-same-length invariant-loop decreases-loop
 same_length c = c.before.loop.invariant.1.same_length

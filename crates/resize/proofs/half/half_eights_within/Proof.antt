@@ -5,14 +5,14 @@ use native.Mathlib.Omega.{arith}
 use Rattle.numbers.specs.Written.{Written, part}
 use Rattle.numbers.proofs.Places.{part_none}
 use Rattle.numbers.proofs.Written.{written_none}
-use Rattle.resize.specs.Rows.{halfFrom}
+use Rattle.resize.specs.Rows.{half_from}
 use Rattle.resize.proofs.Means.{more_within}
 use Rattle.resize.proofs.half.half_eights_within.Statement.{statement}
 use Rattle.resize.proofs.half.half_eights_within.Tie as tie
 
 abbrev invariant-loop : tie.invariant-loop
 invariant-loop s₀ from stride to n x₀ s x =
-    (x ≤ n) × Written 0 (part to x) (halfFrom s₀ from stride to) s₀ s
+    (x ≤ n) × Written 0 (part to x) (half_from s₀ from stride to) s₀ s
 
 abbrev decreases-loop : tie.decreases-loop
 decreases-loop s₀ from stride to n x₀ s x = n - x

@@ -3,16 +3,16 @@ use Prim.Native.Nat.{◌+◌, ◌-◌, ◌≤◌}
 use mathlib.Core.Path.{◌≡◌, ◌∙◌}
 use native.Mathlib.Omega.{arith}
 use Rattle.numbers.specs.Written.{Written, part}
-use Rattle.numbers.proofs.Places.{part_none, part-next}
-use Rattle.numbers.proofs.Written.{written_none, written-set}
-use Rattle.resize.specs.Rows.{halfFrom}
-use Rattle.resize.proofs.Means.{still-there}
+use Rattle.numbers.proofs.Places.{part_none, part_next}
+use Rattle.numbers.proofs.Written.{written_none, written_set}
+use Rattle.resize.specs.Rows.{half_from}
+use Rattle.resize.proofs.Means.{still_there}
 use Rattle.resize.proofs.half.half_rest_within.Statement.{statement}
 use Rattle.resize.proofs.half.half_rest_within.Tie as tie
 
 abbrev invariant-loop : tie.invariant-loop
 invariant-loop s₀ from stride to n x₀ s x =
-    (x ≤ n) × Written 0 (part to x) (halfFrom s₀ from stride to) s₀ s
+    (x ≤ n) × Written 0 (part to x) (half_from s₀ from stride to) s₀ s
 
 abbrev decreases-loop : tie.decreases-loop
 decreases-loop s₀ from stride to n x₀ s x = n - x
@@ -49,9 +49,9 @@ loop-again c =
     let a = s.args in
     let k = turn.before.loop in (
       omega arith,
-      written-set (a.to + k.x) _ k.invariant.1 (slice-write-s c)
-          (c.mean-within.ensures ∙ still-there a.from a.stride a.to k.x s.requires.0 k.invariant.1)
-          (part-next a.to k.x),
+      written_set (a.to + k.x) _ k.invariant.1 (slice-write-s c)
+          (c.mean_within.ensures ∙ still_there a.from a.stride a.to k.x s.requires.0 k.invariant.1)
+          (part_next a.to k.x),
     )
 
 same_length : tie.Need-same-length invariant-loop decreases-loop

@@ -4,16 +4,16 @@ use mathlib.Core.Path.{◌∙◌}
 use native.Mathlib.Omega.{arith}
 use lib.ListN.{length}
 use Rattle.numbers.specs.Written.{Written, part}
-use Rattle.numbers.proofs.Places.{part-last}
-use Rattle.numbers.proofs.Written.{written_none, written-join, written-set}
-use Rattle.resize.specs.Rows.{halfAt}
-use Rattle.resize.proofs.Means.{up_none, up-all}
+use Rattle.numbers.proofs.Places.{part_last}
+use Rattle.numbers.proofs.Written.{written_none, written_join, written_set}
+use Rattle.resize.specs.Rows.{half_at}
+use Rattle.resize.proofs.Means.{up_none, up_all}
 use Rattle.resize.proofs.half.half_row.Statement.{statement}
 use Rattle.resize.proofs.half.half_row.Tie as tie
 
 abbrev invariant-loop : tie.invariant-loop
 invariant-loop above below dst₀ n x₀ dst x =
-    (x₀ ≤ x) × (x ≤ length dst₀) × Written 0 (part x₀ (x - x₀)) (halfAt above below) dst₀ dst
+    (x₀ ≤ x) × (x ≤ length dst₀) × Written 0 (part x₀ (x - x₀)) (half_at above below) dst₀ dst
 
 abbrev decreases-loop : tie.decreases-loop
 decreases-loop above below dst₀ n x₀ dst x = n - x
@@ -48,8 +48,8 @@ loop-again c =
     let wrote = c.before.before.before.before.before.half-eights.ensures in (
       omega (arith, k.invariant.0),
       omega (arith, wrote.1.same_length),
-      written-set k.x _ k.invariant.2 (slice-write-dst c) c.mean-at.ensures
-          (part-last _ _ k.x _ (omega (arith, k.invariant.0)) (omega (arith, k.invariant.0))),
+      written_set k.x _ k.invariant.2 (slice-write-dst c) c.mean-at.ensures
+          (part_last _ _ k.x _ (omega (arith, k.invariant.0)) (omega (arith, k.invariant.0))),
     )
 
 same_length : tie.Need-same-length invariant-loop decreases-loop
@@ -61,8 +61,8 @@ returns : tie.Need-returns invariant-loop decreases-loop
 returns c =
     let k = c.before.loop in
     let wrote = c.before.before.before.before.half-eights.ensures in
-    written-join wrote.1 k.invariant.2
-    (up-all _ k.x _ k.invariant.0 (omega (arith, c.loop-test.false, k.invariant.1, wrote.1.same_length)))
+    written_join wrote.1 k.invariant.2
+    (up_all _ k.x _ k.invariant.0 (omega (arith, c.loop-test.false, k.invariant.1, wrote.1.same_length)))
 
 pub half-row-spec : {M : Type 1} → statement M
 half-row-spec =

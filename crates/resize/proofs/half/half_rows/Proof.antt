@@ -6,13 +6,13 @@ use native.Mathlib.Nat.{add-sub_cancel_left}
 use native.Mathlib.Omega.{arith}
 use lib.ListN.{length, take, drop}
 use Rattle.numbers.specs.Written.{Painted}
-use Rattle.numbers.proofs.Places.{pixels-none}
+use Rattle.numbers.proofs.Places.{pixels_none}
 use Rattle.numbers.proofs.Written.{written_none}
 use Rattle.image.specs.Picture.{pixel}
 use Rattle.image.proofs.Refusal.{row_within}
-use Rattle.image.proofs.Rows.{row-part-length, painted-row}
+use Rattle.image.proofs.Rows.{row_part_length, painted_row}
 use Rattle.resize.specs.Halving.{halved}
-use Rattle.resize.proofs.Means.{half-at-is}
+use Rattle.resize.proofs.Means.{half_at_is}
 use Rattle.resize.proofs.half.half_rows.Statement.{statement}
 use Rattle.resize.proofs.half.half_rows.Tie as tie
 
@@ -24,7 +24,7 @@ abbrev decreases-loop : tie.decreases-loop
 decreases-loop «data» width height stride dst₀ dst-stride half rows y₀ dst y = height / 2 - y
 
 loop-holds : tie.Need-loop-init invariant-loop decreases-loop
-loop-holds c = (omega arith, written_none (λ j _. pixels-none _ _ j))
+loop-holds c = (omega arith, written_none (λ j _. pixels_none _ _ j))
 
 -- the rows' places in the source and in the destination
 module _ (c : tie.In-loop invariant-loop decreases-loop) where
@@ -58,13 +58,13 @@ module _ (c : tie.In-loop invariant-loop decreases-loop) where
       take (at + start.args.width / 2 - at) (drop at c.before.loop.dst)
 
   above_wide : length above-row ≡ start.args.width
-  above_wide = row-part-length _ _ start.args.stride _ _ (add-sub_cancel_left _ _) above-end
+  above_wide = row_part_length _ _ start.args.stride _ _ (add-sub_cancel_left _ _) above-end
 
   below-wide : length below_row ≡ start.args.width
-  below-wide = row-part-length _ _ start.args.stride _ _ (add-sub_cancel_left _ _) below_end
+  below-wide = row_part_length _ _ start.args.stride _ _ (add-sub_cancel_left _ _) below_end
 
   dst-wide : length dst_row ≡ start.args.width / 2
-  dst-wide = row-part-length _ _ start.args.dst-stride _ _ (add-sub_cancel_left _ _) dst-end
+  dst-wide = row_part_length _ _ start.args.dst-stride _ _ (add-sub_cancel_left _ _) dst-end
 
 mul-above : tie.Need-overflow-mul-above invariant-loop decreases-loop
 mul-above c = omega (arith, (start c).ranges.height)
@@ -138,9 +138,9 @@ loop-again c =
     let a = (start turn).args in
     let k = turn.before.loop in (
       omega arith,
-      painted-row (halved (pixel a.«data».now a.stride)) _ (a.width / 2) a.dst-stride k.y _ _ _ _ _
-          (dst-wide turn) (add-sub_cancel_left _ _) (start turn).requires.1.stride-least (dst-end turn)
-          (half-at-is a.«data».now a.width a.stride k.y _ _ (add-sub_cancel_left _ _)
+      painted_row (halved (pixel a.«data».now a.stride)) _ (a.width / 2) a.dst-stride k.y _ _ _ _ _
+          (dst-wide turn) (add-sub_cancel_left _ _) (start turn).requires.1.stride_least (dst-end turn)
+          (half_at_is a.«data».now a.width a.stride k.y _ _ (add-sub_cancel_left _ _)
           (add-sub_cancel_left _ _) (below_end turn))
           k.invariant.1 c.before.before.half-row.ensures,
     )

@@ -4,13 +4,13 @@ use mathlib.Core.Path.{◌≡◌}
 use native.Mathlib.Omega.{arith}
 use lib.ListN.{length}
 use Rattle.numbers.specs.Written.{Painted}
-use Rattle.numbers.proofs.Nat.{add-one-mul}
-use Rattle.numbers.proofs.Places.{pixels-none}
+use Rattle.numbers.proofs.Nat.{add_one_mul}
+use Rattle.numbers.proofs.Places.{pixels_none}
 use Rattle.numbers.proofs.Written.{written_none}
 use Rattle.image.specs.Picture.{pixel}
 use Rattle.image.proofs.Refusal.{row_within}
 use Rattle.resize.specs.Halving.{halved}
-use Rattle.resize.proofs.Means.{rows-after, painted-within}
+use Rattle.resize.proofs.Means.{rows_after, painted_within}
 use Rattle.resize.proofs.half.half_within.Statement.{statement}
 use Rattle.resize.proofs.half.half_within.Tie as tie
 
@@ -22,7 +22,7 @@ abbrev decreases-loop : tie.decreases-loop
 decreases-loop s₀ width height half rows y₀ s y = height / 2 - y
 
 loop-holds : tie.Need-loop-init invariant-loop decreases-loop
-loop-holds c = (omega arith, written_none (λ j _. pixels-none _ _ j))
+loop-holds c = (omega arith, written_none (λ j _. pixels_none _ _ j))
 
 -- the two rows end within the slice, and start at or behind where the row is written
 module _ (c : tie.In-loop invariant-loop decreases-loop) where
@@ -35,12 +35,12 @@ module _ (c : tie.In-loop invariant-loop decreases-loop) where
       omega (
         arith,
         row_within start.pre (2 * c.before.loop.y + 1) (omega (arith, c.loop-test.true)),
-        add-one-mul (2 * c.before.loop.y) start.args.width,
+        add_one_mul (2 * c.before.loop.y) start.args.width,
         c.before.loop.invariant.1.same_length,
       )
 
   before : c.before.loop.y * (start.args.width / 2) ≤ 2 * c.before.loop.y * start.args.width
-  before = rows-after start.args.width c.before.loop.y _ _ c.before.loop.invariant.1
+  before = rows_after start.args.width c.before.loop.y _ _ c.before.loop.invariant.1
 
 mul-half-row-within : tie.Need-overflow-mul-half-row-within invariant-loop decreases-loop
 mul-half-row-within c = omega (arith, (start c.before).fits.height)
@@ -65,7 +65,7 @@ loop-again c =
     let turn = c.before.before.before.before in
     let k = turn.before.loop in
     let row = c.before.before.half-row-within.ensures in
-    (omega arith, painted-within _ k.y _ _ k.invariant.1 (below_end turn) row)
+    (omega arith, painted_within _ k.y _ _ k.invariant.1 (below_end turn) row)
 
 same_length : tie.Need-same-length invariant-loop decreases-loop
 same_length c = c.before.loop.invariant.1.same_length

@@ -1,6 +1,6 @@
 -- `resize::half::mean_of_four` meets its contract: the sum fits in 16 bits, and the mean in 8.
 use mathlib.Core.Path.{refl}
-use Rattle.resize.specs.Halving.{meanOfFour}
+use Rattle.resize.specs.Halving.{mean_of_four}
 use borrow.Author.Rules.{rules}
 use Rattle.resize.proofs.half.mean_of_four.Statement.{statement}
 use Rattle.resize.proofs.half.mean_of_four.Tie as tie
@@ -21,7 +21,7 @@ cast-result : tie.Need-overflow-cast-result
 cast-result c = search rules
 
 returns : tie.Need-returns
-unfolding meanOfFour
+unfolding mean_of_four
 returns c = refl
 
 pub mean-of-four-spec : {M : Type 1} → statement M

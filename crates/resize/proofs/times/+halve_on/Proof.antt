@@ -10,8 +10,8 @@ use borrow.Fn.Kinds.{In}
 use borrow.Fn.PlainCycle.{Measures, is, falls, and}
 use Rattle.image.specs.Picture.{pixel}
 use Rattle.image.specs.Refusal.{Laid}
-use Rattle.image.proofs.Refusal.{tight-area}
-use Rattle.resize.proofs.Steps.{once-laid, last-laid, half-laid, painted-once, painted-more}
+use Rattle.image.proofs.Refusal.{tight_area}
+use Rattle.resize.proofs.Steps.{once_laid, last_laid, half_laid, painted_once, painted_more}
 use Rattle.resize.proofs.times.halve_on.Reads as halve-on
 use Rattle.resize.proofs.times.halve_on.Kinds as halve-on-kinds
 use Rattle.resize.proofs.times.+halve_on.Lts-halve_on as halve-on-lts
@@ -48,7 +48,7 @@ module _ (t : ℕ) where
       let s = c.before.before.before.before.before in
       let a = s.args in (
         s.requires.1.0,
-        once-laid (a.more + 1) a.width a.height s.requires.1.1 (omega (arith, c.before.before.if1.true)),
+        once_laid (a.more + 1) a.width a.height s.requires.1.1 (omega (arith, c.before.before.if1.true)),
       )
 
   same_length : halve-on-lts.Need-same-length claims at halve-on.Post
@@ -61,7 +61,7 @@ module _ (t : ℕ) where
   returns c =
       let first = c.before.before.before.before.before in
       let a = first.before.before.before.args in
-      painted-once (pixel a.scratch.now a.width) (a.more + 1) a.width a.height a.dst-stride
+      painted_once (pixel a.scratch.now a.width) (a.more + 1) a.width a.height a.dst-stride
       (omega (arith, first.if1.true)) c.before.before.half-rows.ensures
 
   -- ---- one, and those behind it
@@ -80,7 +80,7 @@ module _ (t : ℕ) where
         (start.args.width / 2)
     room =
         let l = start.pre.1.0 in
-        half-laid _ _ _ _ one_more l.width-most l.height-most (tight-area l) start.pre.1.1
+        half_laid _ _ _ _ one_more l.width_most l.height_most (tight_area l) start.pre.1.1
 
   half-within-requires : halve-on-lts.Need-half-within-requires claims at halve-on.Post
   half-within-requires c κs = (start c.before).pre.1.0
@@ -96,7 +96,7 @@ module _ (t : ℕ) where
         omega (arith, s.pre.0, some more),
         (
           rw first.half-within.auto.0 (room more),
-          last-laid _ _ s.args.width s.args.height (one_more more) s.pre.1.1,
+          last_laid _ _ s.args.width s.args.height (one_more more) s.pre.1.1,
         ),
       )
 
@@ -111,7 +111,7 @@ module _ (t : ℕ) where
       let first = c.before.before.before.before.before.before.before.before.before in
       let more = first.before.before in
       let a = (start more).args in
-      painted-more (a.more + 1) (a.more - 1 + 1) a.width a.height (one_more more)
+      painted_more (a.more + 1) (a.more - 1 + 1) a.width a.height (one_more more)
       (pixel a.scratch.now a.width) a.dst-stride (room more) first.half-within.ensures
       c.before.before.before.before.halve-on.ensures
 

@@ -6,8 +6,8 @@ use native.Mathlib.Omega.{arith}
 use lib.ListN.{length}
 use Rattle.image.specs.Picture.{pixel}
 use Rattle.image.specs.Refusal.{Laid}
-use Rattle.resize.proofs.Steps.{whole-laid, once-laid, last-laid, half-laid}
-use Rattle.resize.proofs.Steps.{painted-none, painted-once, painted-more}
+use Rattle.resize.proofs.Steps.{whole_laid, once_laid, last_laid, half_laid}
+use Rattle.resize.proofs.Steps.{painted_none, painted_once, painted_more}
 use borrow.Author.Rules.{rules}
 use Rattle.resize.proofs.times.halve_times.Statement.{statement}
 use Rattle.resize.proofs.times.halve_times.Tie as tie
@@ -15,7 +15,7 @@ use Rattle.resize.proofs.times.halve_times.Tie as tie
 copy-rows-requires : tie.Need-copy-rows-requires
 copy-rows-requires c κs =
     let s = c.before.before.before.before.before in
-    (s.requires.0, whole-laid _ _ _ s.requires.1.0 c.before.if1.true)
+    (s.requires.0, whole_laid _ _ _ s.requires.1.0 c.before.if1.true)
 
 same_length : tie.Need-same-length
 same_length c = search rules
@@ -24,13 +24,13 @@ returns : tie.Need-returns
 returns c =
     let at = c.before.before.before.before in
     let a = at.before.before.before.before.args in
-    painted-none (pixel a.«data».now a.stride) a.count a.width a.height a.dst-stride at.if1.true
+    painted_none (pixel a.«data».now a.stride) a.count a.width a.height a.dst-stride at.if1.true
     c.before.before.copy-rows.ensures
 
 half-rows-requires : tie.Need-half-rows-requires
 half-rows-requires c κs =
     let s = c.before.before.before.before.before.before in
-    (s.requires.0, once-laid _ _ _ s.requires.1.0 c.before.if2.true)
+    (s.requires.0, once_laid _ _ _ s.requires.1.0 c.before.if2.true)
 
 same-length-2 : tie.Need-same-length-2
 same-length-2 c = search rules
@@ -39,7 +39,7 @@ returns-2 : tie.Need-returns-2
 returns-2 c =
     let at = c.before.before.before.before in
     let a = at.before.before.before.before.before.args in
-    painted-once (pixel a.«data».now a.stride) a.count a.width a.height a.dst-stride at.if2.true
+    painted_once (pixel a.«data».now a.stride) a.count a.width a.height a.dst-stride at.if2.true
     c.before.before.half-rows.ensures
 
 -- two halvings or more
@@ -56,7 +56,7 @@ module _ (c : tie.Else2) where
   room : Laid (length start.args.scratch.now) (start.args.width / 2) (start.args.height / 2)
       (start.args.width / 2)
   room =
-      half-laid _ _ _ _ one_more start.pre.0.width-most start.pre.0.height-most start.pre.1.1
+      half_laid _ _ _ _ one_more start.pre.0.width_most start.pre.0.height_most start.pre.1.1
       start.pre.1.0
 
 half-rows-requires-2 : tie.Need-half-rows-requires-2
@@ -69,7 +69,7 @@ halve-on-requires : tie.Need-halve-on-requires
 halve-on-requires c κs =
     let first = c.before.before.before.before in
     let more = first.before.before in
-    (rw first.half-rows2.auto.1.1.1.1.0 (room more), last-laid _ _ _ _ (one_more more) (start more).requires.1.0)
+    (rw first.half-rows2.auto.1.1.1.1.0 (room more), last_laid _ _ _ _ (one_more more) (start more).requires.1.0)
 
 same-length-3 : tie.Need-same-length-3
 same-length-3 c = search rules
@@ -82,7 +82,7 @@ returns-3 c =
     let first = c.before.before.before.before.before.before.before.before.before in
     let more = first.before.before in
     let a = (start more).args in
-    painted-more a.count (a.count - 2 + 1) a.width a.height (one_more more)
+    painted_more a.count (a.count - 2 + 1) a.width a.height (one_more more)
     (pixel a.«data».now a.stride) a.dst-stride (room more) first.half-rows2.ensures
     c.before.before.before.before.halve-on.ensures
 

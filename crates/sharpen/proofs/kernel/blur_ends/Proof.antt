@@ -3,8 +3,8 @@ use Prim.Native.Nat.{◌+◌, ◌-◌, ◌≤◌}
 use native.Mathlib.Omega.{arith}
 use mathlib.Core.Path.{◌≡◌}
 use Rattle.numbers.specs.Written.{Written, part}
-use Rattle.numbers.proofs.Places.{part_none, part-last}
-use Rattle.numbers.proofs.Written.{written_none, written-set}
+use Rattle.numbers.proofs.Places.{part_none, part_last}
+use Rattle.numbers.proofs.Written.{written_none, written_set}
 use Rattle.sharpen.specs.Passes.{sum_at}
 use Rattle.sharpen.proofs.kernel.blur_ends.Statement.{statement}
 use Rattle.sharpen.proofs.kernel.blur_ends.Tie as tie
@@ -42,8 +42,8 @@ loop-again c =
     let start = c.before.before.before.before.before in
     let k = c.before.before.loop in
     let a = start.args.start in
-    let on = part-last a (k.x - a) k.x (k.x + 1 - a) (omega arith) (omega arith) in
-    (omega arith, omega arith, written-set k.x _ k.invariant.2 (omega arith) c.column-sum.ensures on)
+    let on = part_last a (k.x - a) k.x (k.x + 1 - a) (omega arith) (omega arith) in
+    (omega arith, omega arith, written_set k.x _ k.invariant.2 (omega arith) c.column-sum.ensures on)
 
 same_length : tie.Need-same-length invariant-loop decreases-loop
 same_length c = c.before.loop.invariant.2.same_length

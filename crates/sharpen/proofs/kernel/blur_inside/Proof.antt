@@ -4,21 +4,21 @@ use native.Mathlib.Omega.{arith}
 use mathlib.Core.Path.{◌≡◌}
 use lib.ListN.{length}
 use Rattle.numbers.specs.Written.{Written, front}
-use Rattle.numbers.proofs.Places.{front-none, front-next}
-use Rattle.numbers.proofs.Written.{written_none, written-set}
-use Rattle.sharpen.specs.Passes.{insideAt}
+use Rattle.numbers.proofs.Places.{front_none, front_next}
+use Rattle.numbers.proofs.Written.{written_none, written_set}
+use Rattle.sharpen.specs.Passes.{inside_at}
 use Rattle.sharpen.proofs.kernel.blur_inside.Statement.{statement}
 use Rattle.sharpen.proofs.kernel.blur_inside.Tie as tie
 
 abbrev invariant-loop : tie.invariant-loop
 invariant-loop row out₀ n x₀ out x =
-    (x ≤ length out₀) × Written 0 (front x) (insideAt row) out₀ out
+    (x ≤ length out₀) × Written 0 (front x) (inside_at row) out₀ out
 
 abbrev decreases-loop : tie.decreases-loop
 decreases-loop row out₀ n x₀ out x = n - x
 
 loop-holds : tie.Need-loop-init invariant-loop decreases-loop
-loop-holds c = (omega arith, written_none (λ j _. front-none j))
+loop-holds c = (omega arith, written_none (λ j _. front_none j))
 
 shared-slice-read-weigh-bytes : tie.Need-shared-slice-read-weigh-bytes invariant-loop decreases-loop
 shared-slice-read-weigh-bytes c = omega arith
@@ -66,7 +66,7 @@ loop-again : tie.Need-loop-preserved invariant-loop decreases-loop
 loop-again c =
     let turn = c.before.before.before.before.before.before.before in
     let k = turn.loop in
-    (omega arith, written-set k.x _ k.invariant.1 (omega arith) c.weigh-bytes.ensures (front-next k.x))
+    (omega arith, written_set k.x _ k.invariant.1 (omega arith) c.weigh-bytes.ensures (front_next k.x))
 
 same_length : tie.Need-same-length invariant-loop decreases-loop
 same_length c = c.before.loop.invariant.1.same_length

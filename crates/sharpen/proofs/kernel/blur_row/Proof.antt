@@ -3,7 +3,7 @@ use mathlib.Core.Path.{refl}
 use native.Mathlib.Nat.{sub-zero}
 use borrow.Author.Rules.{rules}
 use Rattle.numbers.proofs.Written.{written_same}
-use Rattle.sharpen.proofs.Places.{part-front}
+use Rattle.sharpen.proofs.Places.{part_front}
 use Rattle.sharpen.proofs.Rows.{row_written}
 use Rattle.sharpen.proofs.kernel.blur_row.Statement.{statement}
 use Rattle.sharpen.proofs.kernel.blur_row.Tie as tie
@@ -16,7 +16,7 @@ same_length c = search rules
 
 returns : tie.Need-returns
 returns c =
-    written_same (rw sub-zero at c.before.before.blur-ends.ensures) (λ j _. part-front _ j) (λ j _ _. refl)
+    written_same (rw sub-zero at c.before.before.blur-ends.ensures) (λ j _. part_front _ j) (λ j _ _. refl)
 
 sub-end : tie.Need-overflow-sub-end
 sub-end c = search rules

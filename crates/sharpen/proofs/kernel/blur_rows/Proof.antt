@@ -5,23 +5,23 @@ use native.Mathlib.Nat.{add-sub_cancel_left, le_refl}
 use native.Mathlib.Omega.{arith}
 use lib.ListN.{length}
 use Rattle.numbers.specs.Written.{Painted}
-use Rattle.numbers.proofs.Places.{pixels-none}
+use Rattle.numbers.proofs.Places.{pixels_none}
 use Rattle.numbers.proofs.Written.{written_none}
 use Rattle.image.proofs.Refusal.{row_within}
-use Rattle.image.proofs.Rows.{row-end-within, row-part-length, painted-row}
-use Rattle.sharpen.proofs.Rows.{rowSum, row-sums, row-part-sum}
+use Rattle.image.proofs.Rows.{row_end_within, row_part_length, painted_row}
+use Rattle.sharpen.proofs.Rows.{row_sum, row_sums_lem, row_part_sum}
 use Rattle.sharpen.proofs.kernel.blur_rows.Statement.{statement}
 use Rattle.sharpen.proofs.kernel.blur_rows.Tie as tie
 
 abbrev invariant-loop : tie.invariant-loop
 invariant-loop «data» width height stride scratch₀ y₀ scratch y =
-    (y ≤ height) × Painted 0 (rowSum «data» stride width) width y width scratch₀ scratch
+    (y ≤ height) × Painted 0 (row_sum «data» stride width) width y width scratch₀ scratch
 
 abbrev decreases-loop : tie.decreases-loop
 decreases-loop «data» width height stride scratch₀ y₀ scratch y = height - y
 
 loop-holds : tie.Need-loop-init invariant-loop decreases-loop
-loop-holds c = (omega arith, written_none (λ j _. pixels-none _ _ j))
+loop-holds c = (omega arith, written_none (λ j _. pixels_none _ _ j))
 
 -- the row's places in the source and in the scratch
 module _ (c : tie.In-loop invariant-loop decreases-loop) where
@@ -35,7 +35,7 @@ module _ (c : tie.In-loop invariant-loop decreases-loop) where
       let a = c.before.before.before.before.args in
       omega (
         arith,
-        row-end-within a.width a.height c.before.loop.y
+        row_end_within a.width a.height c.before.loop.y
             c.loop-test.true,
         c.before.before.before.before.requires.1,
         c.before.loop.invariant.1.same_length,
@@ -78,11 +78,11 @@ blur-row-requires : tie.Need-blur-row-requires invariant-loop decreases-loop
 blur-row-requires c κs =
     let start = c.before.before.before.before.before.before in
     let a = start.args in
-    let l = row-part-length a.«data».now a.width a.stride _ _ (add-sub_cancel_left _ _)
+    let l = row_part_length a.«data».now a.width a.stride _ _ (add-sub_cancel_left _ _)
     (src-end c.before.before) in
-    let d = row-part-length c.before.before.before.loop.scratch a.width a.width _ _
+    let d = row_part_length c.before.before.before.loop.scratch a.width a.width _ _
     (add-sub_cancel_left _ _) (scratch-end c.before.before) in
-    (d ∙ sym l, omega (arith, l, start.requires.0.width-most))
+    (d ∙ sym l, omega (arith, l, start.requires.0.width_most))
 
 add-y : tie.Need-overflow-add-y invariant-loop decreases-loop
 add-y c = omega arith
@@ -98,10 +98,10 @@ loop-again c =
     let k = turn.loop in
     let from = src-end c.before.before.before.before.before in (
       omega arith,
-      painted-row (rowSum a.«data».now a.stride a.width) _ a.width a.width k.y _ _ _ _ _
-          (row-part-length _ _ a.stride k.y _ (add-sub_cancel_left _ _) from) (add-sub_cancel_left _ _)
+      painted_row (row_sum a.«data».now a.stride a.width) _ a.width a.width k.y _ _ _ _ _
+          (row_part_length _ _ a.stride k.y _ (add-sub_cancel_left _ _) from) (add-sub_cancel_left _ _)
           (le_refl _) (scratch-end c.before.before.before.before.before)
-          (row-part-sum _ _ a.stride k.y _ (add-sub_cancel_left _ _) from) k.invariant.1
+          (row_part_sum _ _ a.stride k.y _ (add-sub_cancel_left _ _) from) k.invariant.1
           c.before.before.blur-row.ensures,
     )
 
@@ -114,7 +114,7 @@ returns c =
     let k = c.before.loop in
     let a = start.args in
     let e : k.y ≡ a.height = omega arith in
-    row-sums a.«data».now a.width a.height a.stride _ _ start.requires.1 (rw e at k.invariant.1)
+    row_sums_lem a.«data».now a.width a.height a.stride _ _ start.requires.1 (rw e at k.invariant.1)
 
 pub blur-rows-spec : {M : Type 1} → statement M
 blur-rows-spec =

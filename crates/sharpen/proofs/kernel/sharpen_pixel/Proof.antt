@@ -2,7 +2,7 @@
 use borrow.Author.Rules.{rules}
 use native.Mathlib.Omega.{arith}
 use mathlib.Core.Path.{sym}
-use Rattle.sharpen.proofs.Binomial.{sharper-below, sharper-above, sharper-within}
+use Rattle.sharpen.proofs.Binomial.{sharper_below, sharper_above, sharper_within}
 use Rattle.sharpen.proofs.kernel.sharpen_pixel.Statement.{statement}
 use Rattle.sharpen.proofs.kernel.sharpen_pixel.Tie as tie
 
@@ -13,13 +13,13 @@ mul-twice : tie.Need-overflow-mul-twice
 mul-twice c = search rules
 
 returns : tie.Need-returns
-returns c = sym (sharper-below _ _ (omega arith))
+returns c = sym (sharper_below _ _ (omega arith))
 
 sub-if2 : tie.Need-overflow-sub-if2
 sub-if2 c = search rules
 
 returns-2 : tie.Need-returns-2
-returns-2 c = sym (sharper-above _ _ (omega arith))
+returns-2 c = sym (sharper_above _ _ (omega arith))
 
 sub-result : tie.Need-overflow-sub-result
 sub-result c = search rules
@@ -28,7 +28,7 @@ cast-result : tie.Need-overflow-cast-result
 cast-result c = search rules
 
 returns-3 : tie.Need-returns-3
-returns-3 c = sym (sharper-within _ _ (omega arith) (omega arith))
+returns-3 c = sym (sharper_within _ _ (omega arith) (omega arith))
 
 pub sharpen-pixel-spec : {M : Type 1} → statement M
 sharpen-pixel-spec =

@@ -4,22 +4,22 @@ use native.Mathlib.Omega.{arith}
 use mathlib.Core.Path.{◌≡◌, ◌∙◌, ap}
 use lib.ListN.{length}
 use Rattle.numbers.specs.Written.{Written, front}
-use Rattle.numbers.proofs.Places.{front-none, front-next}
-use Rattle.numbers.proofs.Written.{written_none, written-set}
+use Rattle.numbers.proofs.Places.{front_none, front_next}
+use Rattle.numbers.proofs.Written.{written_none, written_set}
 use Rattle.sharpen.specs.Binomial.{sharper}
-use Rattle.sharpen.specs.Passes.{sharperAt}
+use Rattle.sharpen.specs.Passes.{sharper_at}
 use Rattle.sharpen.proofs.kernel.sharpen_row.Statement.{statement}
 use Rattle.sharpen.proofs.kernel.sharpen_row.Tie as tie
 
 abbrev invariant-loop : tie.invariant-loop
 invariant-loop row a b c d e dst₀ n x₀ dst x =
-    (x ≤ length dst₀) × Written 0 (front x) (sharperAt row a b c d e) dst₀ dst
+    (x ≤ length dst₀) × Written 0 (front x) (sharper_at row a b c d e) dst₀ dst
 
 abbrev decreases-loop : tie.decreases-loop
 decreases-loop row a b c d e dst₀ n x₀ dst x = n - x
 
 loop-holds : tie.Need-loop-init invariant-loop decreases-loop
-loop-holds c = (omega arith, written_none (λ j _. front-none j))
+loop-holds c = (omega arith, written_none (λ j _. front_none j))
 
 shared-slice-read-sharpen-pixel : tie.Need-shared-slice-read-sharpen-pixel invariant-loop decreases-loop
 shared-slice-read-sharpen-pixel c = omega arith
@@ -86,8 +86,8 @@ loop-again c =
     let turn = c.before.before.before.before.before.before.before.before.before in
     let k = turn.loop in (
       omega arith,
-      written-set k.x _ k.invariant.1 (omega arith)
-          (c.sharpen-pixel.ensures ∙ ap (sharper _) c.before.weigh.ensures) (front-next k.x),
+      written_set k.x _ k.invariant.1 (omega arith)
+          (c.sharpen-pixel.ensures ∙ ap (sharper _) c.before.weigh.ensures) (front_next k.x),
     )
 
 same_length : tie.Need-same-length invariant-loop decreases-loop

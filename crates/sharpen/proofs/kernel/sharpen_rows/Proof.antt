@@ -5,16 +5,16 @@ use native.Mathlib.Nat.{add-sub_cancel_left}
 use native.Mathlib.Omega.{arith}
 use lib.ListN.{length, take, drop}
 use Rattle.numbers.specs.Written.{Painted}
-use Rattle.numbers.proofs.Places.{pixels-none}
+use Rattle.numbers.proofs.Places.{pixels_none}
 use Rattle.numbers.proofs.Written.{written_none}
 use Rattle.image.specs.Picture.{pixel}
-use Rattle.image.specs.Refusal.{maxSide}
+use Rattle.image.specs.Refusal.{max_side}
 use Rattle.image.proofs.Refusal.{row_within}
-use Rattle.sharpen.specs.Binomial.{tapPlace, unsharp}
+use Rattle.sharpen.specs.Binomial.{tap_place, unsharp}
 use Rattle.sharpen.specs.Passes.{Sums}
-use Rattle.sharpen.proofs.Binomial.{tap-lt}
-use Rattle.image.proofs.Rows.{row-part-length, row-part-at, painted-row}
-use Rattle.sharpen.proofs.Rows.{sums-row, sharp-is}
+use Rattle.sharpen.proofs.Binomial.{tap_lt}
+use Rattle.image.proofs.Rows.{row_part_length, row_part_at, painted_row}
+use Rattle.sharpen.proofs.Rows.{sums_row, sharp_is}
 use Rattle.sharpen.proofs.kernel.sharpen_rows.Statement.{statement}
 use Rattle.sharpen.proofs.kernel.sharpen_rows.Tie as tie
 
@@ -26,7 +26,7 @@ abbrev decreases-loop : tie.decreases-loop
 decreases-loop «data» width height stride dst₀ dst-stride scratch y₀ dst y = height - y
 
 loop-holds : tie.Need-loop-init invariant-loop decreases-loop
-loop-holds c = (omega arith, written_none (λ j _. pixels-none _ _ j))
+loop-holds c = (omega arith, written_none (λ j _. pixels_none _ _ j))
 
 -- the row's places in the source and in the destination
 module _ (c : tie.In-loop invariant-loop decreases-loop) where
@@ -56,24 +56,24 @@ module _ (c : tie.In-loop invariant-loop decreases-loop) where
   tap-sums : (i : ℕ) → let a =
       c.before.before.before.before.before.args in let to = c.before.loop.y * a.dst-stride in
       Sums (length (take (to + a.width - to) (drop to c.before.loop.dst)))
-      (take a.width (drop (tapPlace a.height c.before.loop.y i * a.width) a.scratch.now))
+      (take a.width (drop (tap_place a.height c.before.loop.y i * a.width) a.scratch.now))
   tap-sums i =
       let a = c.before.before.before.before.before.args in
       let to = c.before.loop.y * a.dst-stride in
-      let l = row-part-length c.before.loop.dst a.width a.dst-stride c.before.loop.y
+      let l = row_part_length c.before.loop.dst a.width a.dst-stride c.before.loop.y
       (to + a.width - to) (add-sub_cancel_left _ _) dst-end in
-      rw l (sums-row (pixel a.«data».now a.stride) a.width a.height a.scratch.now
+      rw l (sums_row (pixel a.«data».now a.stride) a.width a.height a.scratch.now
       c.before.before.before.before.before.requires.1.1.1
-      c.before.before.before.before.before.requires.1.1.0 bytes (tapPlace a.height c.before.loop.y i)
-      (tap-lt _ _ i c.loop-test.true))
+      c.before.before.before.before.before.requires.1.1.0 bytes (tap_place a.height c.before.loop.y i)
+      (tap_lt _ _ i c.loop-test.true))
 
   tap-asked : (i : ℕ) → i ≤ 4 → let a = c.before.before.before.before.before.args in
-      (c.before.loop.y < a.height) × (i ≤ 4) × (a.height ≤ maxSide)
+      (c.before.loop.y < a.height) × (i ≤ 4) × (a.height ≤ max_side)
       × (a.width * a.height ≤ length a.scratch.now)
   tap-asked i h = (
     c.loop-test.true,
     h,
-    c.before.before.before.before.before.requires.0.height-most,
+    c.before.before.before.before.before.requires.0.height_most,
     c.before.before.before.before.before.requires.1.1.0,
   )
 
@@ -129,8 +129,8 @@ sharpen-row-requires c κs =
     let start = at-tap-row.before.before.before.before.before.before.before in
     let a = start.args in
     let t = c.before.before.before.before.before.before.before in
-    let from = row-part-length a.«data».now a.width a.stride _ _ (add-sub_cancel_left _ _) (src-end t) in
-    let to = row-part-length t.before.loop.dst a.width a.dst-stride _ _
+    let from = row_part_length a.«data».now a.width a.stride _ _ (add-sub_cancel_left _ _) (src-end t) in
+    let to = row_part_length t.before.loop.dst a.width a.dst-stride _ _
     (add-sub_cancel_left _ _) (dst-end t) in (
       from ∙ sym to,
       (
@@ -163,16 +163,16 @@ loop-again c =
     let from = k.y * a.stride in
     let width = from + a.width - from in (
       omega (arith, t.loop-test.true),
-      painted-row (unsharp px a.width a.height) _ a.width a.dst-stride k.y _ _ _ _ _
-          (row-part-length _ _ a.dst-stride k.y _ (add-sub_cancel_left _ _) (dst-end t))
-          (add-sub_cancel_left _ _) p.1.0.stride-least
+      painted_row (unsharp px a.width a.height) _ a.width a.dst-stride k.y _ _ _ _ _
+          (row_part_length _ _ a.dst-stride k.y _ (add-sub_cancel_left _ _) (dst-end t))
+          (add-sub_cancel_left _ _) p.1.0.stride_least
           (dst-end t)
           (λ x h.
-          sharp-is px a.width a.height a.scratch.now p.1.1.1
+          sharp_is px a.width a.height a.scratch.now p.1.1.1
           (take width (drop from a.«data».now)) _ _ _ _ _ k.y t.loop-test.true
           at-tap-row.tap-row.ensures at-tap-row2.tap-row2.ensures at-tap-row3.tap-row3.ensures
           at-tap-row4.tap-row4.ensures at-tap-row5.tap-row5.ensures
-          x h (row-part-at a.«data».now a.width a.stride k.y width
+          x h (row_part_at a.«data».now a.width a.stride k.y width
           (add-sub_cancel_left _ _) (src-end t) x h))
           k.invariant.1 c.before.before.sharpen-row.ensures,
     )

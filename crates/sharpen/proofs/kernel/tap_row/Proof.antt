@@ -3,8 +3,8 @@ use Prim.Native.Nat.{◌+◌, ◌*◌, ◌≤◌}
 use native.Mathlib.Nat.{add-sub_cancel_left}
 use native.Mathlib.Omega.{arith}
 use lib.ListN.{length}
-use Rattle.sharpen.proofs.Binomial.{tap-lt}
-use Rattle.image.proofs.Rows.{row-end-within}
+use Rattle.sharpen.proofs.Binomial.{tap_lt}
+use Rattle.image.proofs.Rows.{row_end_within}
 use borrow.Author.Rules.{rules}
 use Rattle.sharpen.proofs.kernel.tap_row.Statement.{statement}
 use Rattle.sharpen.proofs.kernel.tap_row.Tie as tie
@@ -17,8 +17,8 @@ row-end : (c : tie.After-tap-place) → let a =
     c.before.before.args in c.tap-place.result * a.width + a.width ≤ length a.scratch.now
 row-end c =
     let a = c.before.before.args in
-    let e = row-end-within a.width a.height c.tap-place.result
-    (rw c.tap-place.ensures (tap-lt _ _ _ c.before.before.requires.0)) in
+    let e = row_end_within a.width a.height c.tap-place.result
+    (rw c.tap-place.ensures (tap_lt _ _ _ c.before.before.requires.0)) in
     omega (arith, e, c.before.before.requires.3)
 
 mul-start : tie.Need-overflow-mul-start

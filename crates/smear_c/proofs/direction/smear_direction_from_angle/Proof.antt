@@ -1,7 +1,7 @@
 -- `smear_c::direction::smear_direction_from_angle` meets its contract: the answer's two cases.
 use mathlib.Core.Path.{sym, ◌∙◌, ap}
 use borrow.Author.Rules.{rules}
-use Rattle.smear_c.specs.Direction.{snappedIndex}
+use Rattle.smear_c.specs.Direction.{snapped_index}
 use Rattle.smear_c.proofs.direction.smear_direction_from_angle.Statement.{statement}
 use Rattle.smear_c.proofs.direction.smear_direction_from_angle.Tie as tie
 
@@ -20,10 +20,10 @@ enum_told c = search rules
 returns : tie.Need-returns
 returns c =
     let d = c.before.before in
-    c.index.ensures ∙ ap snappedIndex (sym d.direction.given.1 ∙ d.before.before.from-angle.ensures)
+    c.index.ensures ∙ ap snapped_index (sym d.direction.given.1 ∙ d.before.before.from-angle.ensures)
 
 returns-2 : tie.Need-returns-2
-returns-2 c = ap snappedIndex (sym c.enum_told.given.1 ∙ c.before.before.from-angle.ensures)
+returns-2 c = ap snapped_index (sym c.enum_told.given.1 ∙ c.before.before.from-angle.ensures)
 
 pub smear-direction-from-angle-spec : {M : Type 1} → statement M
 smear-direction-from-angle-spec =

@@ -4,7 +4,7 @@ use mathlib.Core.Path.{sym, ◌∙◌}
 use native.Mathlib.Omega.{arith}
 use mir.Syntax.{w64}
 use mir.Facts.{to_z-of_z}
-use Rattle.smear_c.proofs.Outs.{returns-estimate, returns-refusal}
+use Rattle.smear_c.proofs.Outs.{returns_estimate, returns_refusal}
 use Rattle.smear_c.proofs.direction.smear_estimate_line_direction.Statement.{statement}
 use Rattle.smear_c.proofs.direction.smear_estimate_line_direction.Tie as tie
 
@@ -24,7 +24,7 @@ returns : tie.Need-returns
 returns c =
     let k = c.before.before.before.before.before in
     let d = k.d.given.0.0 in
-    returns-estimate _ _ (sym k.before.before.estimate-line-direction.ensures ∙ k.d.given.1)
+    returns_estimate _ _ (sym k.before.before.estimate-line-direction.ensures ∙ k.d.given.1)
     c.index.ensures
     (to_z-of_z {w = w64} {z = d.a} (record { sfits = omega (arith, c.before.before.before.struct_told.given) }))
     (to_z-of_z {w = w64} {z = d.c} (record { sfits = omega (arith, c.before.before.struct-told2.given) }))
@@ -33,7 +33,7 @@ returns c =
 returns-2 : tie.Need-returns-2
 returns-2 c =
     let k = c.before in
-    returns-refusal _ _ (sym k.before.before.estimate-line-direction.ensures ∙ k.number.given.1)
+    returns_refusal _ _ (sym k.before.before.estimate-line-direction.ensures ∙ k.number.given.1)
 
 pub smear-estimate-line-direction-spec : {M : Type 1} → statement M
 smear-estimate-line-direction-spec =

@@ -1,10 +1,10 @@
 -- `smear_c::pictures::smear_read_pgm` meets its contract: the answer's two cases.
 use borrow.Author.Rules.{rules}
 use mathlib.Core.Path.{refl, sym, ◌∙◌}
-use Rattle.pgm.specs.Read.{readDecision}
-use Rattle.pgm.proofs.Headers.{picture-decided, refused-decided}
-use Rattle.smear_c.specs.Pictures.{pictureOuts}
-use Rattle.smear_c.proofs.Outs.{returns-found, returns-number}
+use Rattle.pgm.specs.Read.{read_decision}
+use Rattle.pgm.proofs.Headers.{picture_decided, refused_decided}
+use Rattle.smear_c.specs.Pictures.{picture_outs}
+use Rattle.smear_c.proofs.Outs.{returns_found, returns_number}
 use Rattle.smear_c.proofs.pictures.smear_read_pgm.Statement.{statement}
 use Rattle.smear_c.proofs.pictures.smear_read_pgm.Tie as tie
 
@@ -20,14 +20,14 @@ enum-known-number c = search rules
 returns : tie.Need-returns
 returns c =
     let k = c.before in
-    returns-found pictureOuts _ _
-    (picture-decided (readDecision _) (sym k.before.before.read.ensures ∙ k.picture.given.1)) refl
+    returns_found picture_outs _ _
+    (picture_decided (read_decision _) (sym k.before.before.read.ensures ∙ k.picture.given.1)) refl
 
 returns-2 : tie.Need-returns-2
 returns-2 c =
     let k = c.before in
-    returns-number pictureOuts _ _
-    (refused-decided (readDecision _) (sym k.before.before.read.ensures ∙ k.number.given.1))
+    returns_number picture_outs _ _
+    (refused_decided (read_decision _) (sym k.before.before.read.ensures ∙ k.number.given.1))
 
 pub smear-read-pgm-spec : {M : Type 1} → statement M
 smear-read-pgm-spec =

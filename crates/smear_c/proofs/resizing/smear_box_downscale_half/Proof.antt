@@ -1,7 +1,7 @@
 -- `smear_c::resizing::smear_box_downscale_half` meets its contract: the call's, by its number.
-use Rattle.image.proofs.Call.{number-in-c}
-use Rattle.resize.specs.Call.{decisionOf}
-use Rattle.resize.proofs.Answers.{decision-told}
+use Rattle.image.proofs.Call.{number_in_c}
+use Rattle.resize.specs.Call.{decision_of}
+use Rattle.resize.proofs.Answers.{decision_told}
 use borrow.Author.Rules.{rules}
 use Rattle.smear_c.proofs.resizing.smear_box_downscale_half.Statement.{statement}
 use Rattle.smear_c.proofs.resizing.smear_box_downscale_half.Tie as tie
@@ -17,7 +17,7 @@ same_length c = search rules
 
 returns : tie.Need-returns
 returns c =
-    number-in-c decisionOf decision-told c.before.before.before.box-downscale-half.ensures c.number.ensures
+    number_in_c decision_of decision_told c.before.before.before.box-downscale-half.ensures c.number.ensures
 
 pub smear-box-downscale-half-spec : {M : Type 1} → statement M
 smear-box-downscale-half-spec =

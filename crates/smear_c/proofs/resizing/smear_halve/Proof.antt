@@ -1,7 +1,7 @@
 -- `smear_c::resizing::smear_halve` meets its contract: the call's, by its number.
-use Rattle.image.proofs.Call.{number-in-c}
-use Rattle.resize.specs.Call.{decisionOf}
-use Rattle.resize.proofs.Answers.{decision-told}
+use Rattle.image.proofs.Call.{number_in_c}
+use Rattle.resize.specs.Call.{decision_of}
+use Rattle.resize.proofs.Answers.{decision_told}
 use borrow.Author.Rules.{rules}
 use Rattle.smear_c.proofs.resizing.smear_halve.Statement.{statement}
 use Rattle.smear_c.proofs.resizing.smear_halve.Tie as tie
@@ -21,7 +21,7 @@ same-length-2 c = search rules
 returns : tie.Need-returns
 returns c =
     let called = c.before.before.before in
-    number-in-c decisionOf decision-told
+    number_in_c decision_of decision_told
     called.before.before.halve.ensures c.number.ensures
 
 pub smear-halve-spec : {M : Type 1} → statement M

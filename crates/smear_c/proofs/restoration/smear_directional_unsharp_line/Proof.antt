@@ -1,10 +1,10 @@
 -- `smear_c::restoration::smear_directional_unsharp_line` meets its contract: the call's, at the configuration that the
 -- parameters make.
 use borrow.Author.Rules.{rules}
-use Rattle.image.proofs.Call.{outcome-in-c}
-use Rattle.raster.specs.Direction.{directionIndex}
-use Rattle.smear_c.specs.Restoration.{decisionOf}
-use Rattle.smear_c.proofs.RestorationDecision.{decision-told}
+use Rattle.image.proofs.Call.{outcome_in_c}
+use Rattle.raster.specs.Direction.{direction_index}
+use Rattle.smear_c.specs.Restoration.{decision_of}
+use Rattle.smear_c.proofs.RestorationDecision.{decision_told}
 use Rattle.smear_c.proofs.restoration.smear_directional_unsharp_line.Statement.{statement}
 use Rattle.smear_c.proofs.restoration.smear_directional_unsharp_line.Tie as tie
 
@@ -28,7 +28,7 @@ returns c =
     let k = c.before.before.before.before.before in
     let called = rw k.before.before.before.unsharp-config.ensures at
     k.directional-unsharp-line-into.ensures in
-    outcome-in-c decisionOf decision-told directionIndex called c.answer-c.ensures
+    outcome_in_c decision_of decision_told direction_index called c.answer-c.ensures
 
 pub smear-directional-unsharp-line-spec : {M : Type 1} → statement M
 smear-directional-unsharp-line-spec =

@@ -1,7 +1,7 @@
 -- `smear_c::sharpening::smear_fixed_binomial_unsharp` meets its contract: the call's, by its number.
-use Rattle.image.proofs.Call.{number-in-c}
-use Rattle.sharpen.specs.Call.{decisionOf}
-use Rattle.sharpen.proofs.Call.{decision-told}
+use Rattle.image.proofs.Call.{number_in_c}
+use Rattle.sharpen.specs.Call.{decision_of}
+use Rattle.sharpen.proofs.Call.{decision_told}
 use borrow.Author.Rules.{rules}
 use Rattle.smear_c.proofs.sharpening.smear_fixed_binomial_unsharp.Statement.{statement}
 use Rattle.smear_c.proofs.sharpening.smear_fixed_binomial_unsharp.Tie as tie
@@ -21,7 +21,7 @@ same-length-2 c = search rules
 returns : tie.Need-returns
 returns c =
     let called = c.before.before.before in
-    number-in-c decisionOf decision-told
+    number_in_c decision_of decision_told
     called.before.before.fixed-binomial-unsharp-into.ensures c.number.ensures
 
 pub smear-fixed-binomial-unsharp-spec : {M : Type 1} → statement M

@@ -1,7 +1,7 @@
 -- `smear_c::sheet::smear_summarize` meets its contract: too little room, a sheet, a fault.
 use borrow.Author.Rules.{rules}
 use mathlib.Core.Path.{sym, ◌∙◌}
-use Rattle.smear_c.proofs.Outs.{no_room, sheet-given, fault-given}
+use Rattle.smear_c.proofs.Outs.{no_room, sheet_given, fault_given}
 use Rattle.smear_c.proofs.sheet.smear_summarize.Statement.{statement}
 use Rattle.smear_c.proofs.sheet.smear_summarize.Tie as tie
 
@@ -30,13 +30,13 @@ returns-2 c =
     let call = known.before.before in
     let start = call.before.before.before.before in
     let is = sym call.summarize.ensures ∙ known.summary.given.1 in
-    sheet-given _ start.args.sheet.now _ call.before.if1.false _ is put.put-summary.ensures
+    sheet_given _ start.args.sheet.now _ call.before.if1.false _ is put.put-summary.ensures
 
 returns-3 : tie.Need-returns-3
 returns-3 c =
     let known = c.before in
     let call = known.before.before in
-    fault-given _ _ _ call.before.if1.false _ _ (sym call.summarize.ensures ∙ known.number.given.1)
+    fault_given _ _ _ call.before.if1.false _ _ (sym call.summarize.ensures ∙ known.number.given.1)
 
 pub smear-summarize-spec : {M : Type 1} → statement M
 smear-summarize-spec =

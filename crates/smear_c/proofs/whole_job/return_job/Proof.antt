@@ -1,9 +1,9 @@
 -- `smear_c::whole_job::return_job` meets its contract: the answer's two cases.
 use borrow.Author.Rules.{rules}
 use mathlib.Core.Path.{refl, ap}
-use Rattle.job.specs.Job.{jobDecided}
-use Rattle.smear_c.specs.WholeJob.{jobOuts}
-use Rattle.smear_c.proofs.Outs.{returns-found, returns-number}
+use Rattle.job.specs.Job.{job_decided}
+use Rattle.smear_c.specs.WholeJob.{job_outs}
+use Rattle.smear_c.proofs.Outs.{returns_found, returns_number}
 use Rattle.smear_c.proofs.whole_job.return_job.Statement.{statement}
 use Rattle.smear_c.proofs.whole_job.return_job.Tie as tie
 
@@ -18,10 +18,10 @@ enum-known-answer-2 c = search rules
 
 returns : tie.Need-returns
 returns c =
-    returns-found jobOuts _ _ (ap jobDecided c.before.before.answer.given.1) (rw c.index.ensures refl)
+    returns_found job_outs _ _ (ap job_decided c.before.before.answer.given.1) (rw c.index.ensures refl)
 
 returns-2 : tie.Need-returns-2
-returns-2 c = returns-number jobOuts _ _ (ap jobDecided c.before.answer2.given.1)
+returns-2 c = returns_number job_outs _ _ (ap job_decided c.before.answer2.given.1)
 
 pub return-job-spec : {M : Type 1} → statement M
 return-job-spec =

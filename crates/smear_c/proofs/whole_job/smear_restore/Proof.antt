@@ -14,16 +14,16 @@ use Rattle.walks.proofs.Script.{id⊢, w8, w64, Lfts, fact_i, ◌$◌, !, move, 
 use Rattle.walks.proofs.Script.{lent}
 use Rattle.walks.proofs.Script.{shared, execs, ◌▸◌, Shows, meets}
 use Rattle.image.specs.Call.{Gray8, gray8, Returns}
-use Rattle.image.proofs.Call.{outcome-in-c}
+use Rattle.image.proofs.Call.{outcome_in_c}
 use Rattle.swings.specs.contracts.Swing as S
-use Rattle.job.specs.Job.{jobDecided, Restored}
+use Rattle.job.specs.Job.{job_decided, Restored}
 use Rattle.job.specs.declared.JobConfig.{JobConfig}
 use Rattle.job.proofs.Parameters as P
-use Rattle.job.proofs.Plans.{job-told}
+use Rattle.job.proofs.Plans.{job_told}
 use Rattle.job.specs.contracts.restore as job
 use Rattle.job.proofs.restore.Symbol as job-def
 use Rattle.job.proofs.restore.Met as job-thm
-use Rattle.smear_c.specs.WholeJob.{jobConfig, JobOuts, outs, jobOuts, RestoredC}
+use Rattle.smear_c.specs.WholeJob.{job_config, JobOuts, outs, job_outs, RestoredC}
 use Rattle.smear_c.specs.contracts.whole_job.job_config as config
 use Rattle.smear_c.proofs.whole_job.job_config.Symbol as config-def
 use Rattle.smear_c.proofs.whole_job.job_config.Met as config-thm
@@ -63,7 +63,7 @@ destination κs a = let d = a.1.1.1.1 in gray8 d.0.now d.1.0 d.1.1.0 d.1.1.1.0
 
 abbrev configured : (κs : Lfts 7) → Arg κs → JobConfig
 configured κs a = let s = a.1.1.1.1.1.1.1.1 in
-    jobConfig s.0 s.1.0 s.1.1.0 s.1.1.1.0 s.1.1.1.1.0 s.1.1.1.1.1.0
+    job_config s.0 s.1.0 s.1.1.0 s.1.1.1.0 s.1.1.1.1.0 s.1.1.1.1.1.0
     s.1.1.1.1.1.1.0
 
 abbrev before : (κs : Lfts 7) → Arg κs → JobOuts
@@ -119,10 +119,10 @@ smear-restore-spec 𝓤 𝓛 𝓜 𝓡 =
     (back.clauses 𝓛 𝓜.mem 𝓡.run) tt
     (cited 𝓤 𝓛.H _ 𝓜 𝓡 code.env back-def.name back-def.routine code.calls-smear-c::whole-job::return-job
     (back-thm.met 𝓤 𝓛 𝓜 𝓡)) (is-answer ▸ tt) (id⊢ 𝓤 _) refl tt refl
-    (λ r us. Returns (jobDecided answer) jobOuts (before κs a) (outs us.1.0 us.1.1.0 us.1.1.1.0) r)
+    (λ r us. Returns (job_decided answer) job_outs (before κs a) (outs us.1.0 us.1.1.0 us.1.1.1.0) r)
     (λ r us. id⊢ 𝓤 _) (λ r us given is.
     move ! (0 ∷ 7 ∷ 8 ∷ 9 ∷ 10 ∷ 1 ∷ 2 ∷ 3 ∷ 11 ∷ 12 ∷ 13 ∷ []) $
     finishes 𝓛 7 parameters (uint w8) κs qs a _ Answers Kf refl ends r
     (tt ▸ tt ▸ tt ▸ tt ▸ ds ▸ tt ▸ tt ▸ tt ▸ tt ▸ tt ▸ tt ▸ tt ▸ tt ▸ tt ▸ tt ▸ ss ▸ ys ▸ us.1) is
-    (outcome-in-c jobDecided job-told jobOuts
+    (outcome_in_c job_decided job_told job_outs
     (subst (λ c. Restored src to ds c b.0.now ss b.1.0.now ys answer) e restored) given) refl))))

@@ -2,7 +2,7 @@
 use borrow.Author.Rules.{rules}
 use Prim.Native.Nat.{ℕ}
 use lib.ListN.{length-replicate}
-use Rattle.smear_run.proofs.Stages.{binomial-filtered}
+use Rattle.smear_run.proofs.Stages.{binomial_filtered}
 use Rattle.smear_run.proofs.filters.binomial.Statement.{statement}
 use Rattle.smear_run.proofs.filters.binomial.Tie as tie
 
@@ -28,7 +28,7 @@ returns : tie.Need-returns
 returns c =
     let at-fixed-binomial-unsharp-into = c.before.before.before.before in
     let start = at-fixed-binomial-unsharp-into.before.before.before.before.before.before.before in
-    binomial-filtered _ _ _ _ start.args.picture.now start.requires (length-replicate {A = ℕ} 4096 0)
+    binomial_filtered _ _ _ _ start.args.picture.now start.requires (length-replicate {A = ℕ} 4096 0)
     at-fixed-binomial-unsharp-into.fixed-binomial-unsharp-into.ensures c.binomial-answer.ensures
 
 pub binomial-spec : {M : Type 1} → statement M

@@ -1,6 +1,6 @@
 -- `smear_run::filters::filter` meets its contract.
 use borrow.Author.Rules.{rules}
-use Rattle.smear_run.proofs.Stages.{stage-job, stage-restoration, stage-unsharp, stage-binomial}
+use Rattle.smear_run.proofs.Stages.{stage_job, stage_restoration, stage_unsharp, stage_binomial}
 use Rattle.smear_run.proofs.filters.filter.Statement.{statement}
 use Rattle.smear_run.proofs.filters.filter.Tie as tie
 
@@ -37,7 +37,7 @@ returns c =
     let named = call.before.before.before in
     let matched = named.before.before in
     let a = matched.before.before.args in
-    rw (stage-job a.«record» a.picture.now named.filter.given.1) call.whole-job.ensures
+    rw (stage_job a.«record» a.picture.now named.filter.given.1) call.whole_job.ensures
 
 same-length-2 : tie.Need-same-length-2
 same-length-2 c = search rules
@@ -48,7 +48,7 @@ returns-2 c =
     let named = call.before.before.before in
     let matched = named.before.before in
     let a = matched.before.before.args in
-    rw (stage-restoration a.«record» a.picture.now named.filter2.given.1) call.restoration.ensures
+    rw (stage_restoration a.«record» a.picture.now named.filter2.given.1) call.restoration.ensures
 
 same-length-3 : tie.Need-same-length-3
 same-length-3 c = search rules
@@ -59,7 +59,7 @@ returns-3 c =
     let named = call.before.before.before in
     let matched = named.before.before in
     let a = matched.before.before.args in
-    rw (stage-unsharp a.«record» a.picture.now named.filter3.given.1) call.unsharp.ensures
+    rw (stage_unsharp a.«record» a.picture.now named.filter3.given.1) call.unsharp.ensures
 
 same-length-4 : tie.Need-same-length-4
 same-length-4 c = search rules
@@ -70,7 +70,7 @@ returns-4 c =
     let told = call.before.before in
     let matched = told.before.before in
     let a = matched.before.before.args in
-    rw (stage-binomial a.«record» a.picture.now told.enum_told.given.1) call.binomial.ensures
+    rw (stage_binomial a.«record» a.picture.now told.enum_told.given.1) call.binomial.ensures
 
 pub filter-spec : {M : Type 1} → statement M
 filter-spec =

@@ -3,9 +3,9 @@ use borrow.Author.Rules.{rules}
 use mathlib.Core.Path.{ap}
 use lib.IntN.{ℤ, pos}
 use lib.ListN.{length-replicate}
-use Rattle.deblur.specs.Settings.{restorationOf}
-use Rattle.smear_run.specs.Stage.{lineScratch}
-use Rattle.smear_run.proofs.Stages.{line-filtered}
+use Rattle.deblur.specs.Settings.{restoration_of}
+use Rattle.smear_run.specs.Stage.{line_scratch}
+use Rattle.smear_run.proofs.Stages.{line_filtered}
 use Rattle.smear_run.proofs.filters.restoration.Statement.{statement}
 use Rattle.smear_run.proofs.filters.restoration.Tie as tie
 
@@ -35,8 +35,8 @@ returns c =
     let called = c.before.before.before.before in
     let settings = called.before.before.before in
     let s = settings.before.before.before.before.before in
-    line-filtered _ _ _ _ s.args.picture.now (ap restorationOf settings.restoration-config.ensures) s.requires
-    (length-replicate {A = ℤ} lineScratch (pos 0))
+    line_filtered _ _ _ _ s.args.picture.now (ap restoration_of settings.restoration-config.ensures) s.requires
+    (length-replicate {A = ℤ} line_scratch (pos 0))
     called.van-cittert-line-into.ensures c.line-answer.ensures
 
 pub restoration-spec : {M : Type 1} → statement M

@@ -3,9 +3,9 @@ use borrow.Author.Rules.{rules}
 use mathlib.Core.Path.{ap}
 use lib.IntN.{ℤ, pos}
 use lib.ListN.{length-replicate}
-use Rattle.deblur.specs.Settings.{unsharpOf}
-use Rattle.smear_run.specs.Stage.{lineScratch}
-use Rattle.smear_run.proofs.Stages.{line-filtered}
+use Rattle.deblur.specs.Settings.{unsharp_of}
+use Rattle.smear_run.specs.Stage.{line_scratch}
+use Rattle.smear_run.proofs.Stages.{line_filtered}
 use Rattle.smear_run.proofs.filters.unsharp.Statement.{statement}
 use Rattle.smear_run.proofs.filters.unsharp.Tie as tie
 
@@ -36,8 +36,8 @@ returns c =
     let called = c.before.before.before.before in
     let settings = called.before.before.before in
     let s = settings.before.before.before.before.before in
-    line-filtered _ _ _ _ s.args.picture.now (ap unsharpOf settings.unsharp-config.ensures) s.requires
-    (length-replicate {A = ℤ} lineScratch (pos 0))
+    line_filtered _ _ _ _ s.args.picture.now (ap unsharp_of settings.unsharp-config.ensures) s.requires
+    (length-replicate {A = ℤ} line_scratch (pos 0))
     called.directional-unsharp-line-into.ensures c.line-answer.ensures
 
 pub unsharp-spec : {M : Type 1} → statement M

@@ -5,12 +5,12 @@ use mathlib.Core.Path.{◌≡◌, refl, sym, ◌∙◌}
 use mathlib.Core.Bool.{true}
 use Prim.Native.Nat.{◌*◌}
 use native.Mathlib.Omega.{arith}
-use Rattle.record.specs.Record.{isJob}
+use Rattle.record.specs.Record.{is_job}
 use Rattle.smear_run.specs.Stage.{stage}
-use Rattle.smear_run.specs.Output.{printed, jobOutput}
+use Rattle.smear_run.specs.Output.{printed, job_output}
 use Rattle.smear_run.specs.Parts.{SmallJob}
-use Rattle.smear_run.proofs.Stages.{area-fits}
-use Rattle.smear_run.proofs.Printed.{no-job, too_large, of-stage}
+use Rattle.smear_run.proofs.Stages.{area_fits}
+use Rattle.smear_run.proofs.Printed.{no_job, too_large, of_stage}
 use Rattle.smear_run.proofs.output.run_record.Statement.{statement}
 use Rattle.smear_run.proofs.output.run_record.Tie as tie
 
@@ -28,8 +28,8 @@ returns c =
     let at-if1 = c.before.before.before.before in
     let at-is-job = at-if1.before in
     let start = at-is-job.before.before.before in
-    rw (no-job start.args.«record» start.args.picture.now
-    (sym at-is-job.is-job.ensures ∙ not-true _ at-if1.if1.true)) c.before.before.put-refusal.ensures
+    rw (no_job start.args.«record» start.args.picture.now
+    (sym at-is-job.is_job_holds.ensures ∙ not-true _ at-if1.if1.true)) c.before.before.put-refusal.ensures
 
 cast-n : tie.Need-overflow-cast-n
 cast-n c = search rules
@@ -38,7 +38,7 @@ cast-n-2 : tie.Need-overflow-cast-n-2
 cast-n-2 c = search rules
 
 mul-n : tie.Need-overflow-mul-n
-mul-n c = area-fits (omega (arith, c.before.struct_known.given)) (omega (arith, c.struct-known2.given))
+mul-n c = area_fits (omega (arith, c.before.struct_known.given)) (omega (arith, c.struct-known2.given))
 
 put-too-large-requires : tie.Need-put-too-large-requires
 put-too-large-requires c κs = search rules
@@ -51,15 +51,15 @@ module _ (c : tie.Else1) where
   abbrev start : tie.Start
   start = c.before.before.before.before
 
-  is-job : isJob start.args.«record» ≡ true
-  is-job = sym c.before.is-job.ensures ∙ not-false _ c.if1.false
+  is_job_holds : is_job start.args.«record» ≡ true
+  is_job_holds = sym c.before.is_job_holds.ensures ∙ not-false _ c.if1.false
 
 returns-2 : tie.Need-returns-2
 returns-2 c =
     let at-if2 = c.before.before.before.before in
     let at-if1 = at-if2.before.before.before in
     let a = (start at-if1).args in
-    rw (too_large a.«record» a.picture.now (is-job at-if1) at-if2.if2.true)
+    rw (too_large a.«record» a.picture.now (is_job_holds at-if1) at-if2.if2.true)
     c.before.before.put-too-large.ensures
 
 add-if3 : tie.Need-overflow-add-if3
@@ -74,14 +74,14 @@ module _ (c : tie.Else2) where
   small =
       record {
         legible = a.pre;
-        is-job = is-job c.before.before.before;
+        is_job_holds = is_job_holds c.before.before.before;
         count = refl;
         few = c.if2.false;
       }
 
-  of-filter : jobOutput a.args.«record» a.args.picture.now
+  of-filter : job_output a.args.«record» a.args.picture.now
       ≡ printed a.args.«record» (stage a.args.«record» a.args.picture.now)
-  of-filter = of-stage a.args.«record» a.args.picture.now (is-job c.before.before.before) c.if2.false
+  of-filter = of_stage a.args.«record» a.args.picture.now (is_job_holds c.before.before.before) c.if2.false
 
 run-short-requires : tie.Need-run-short-requires
 run-short-requires c κs = (small c.before.before, c.before.if3.true)

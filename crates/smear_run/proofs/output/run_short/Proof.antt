@@ -3,7 +3,7 @@ use borrow.Author.Rules.{rules}
 use mathlib.Core.Path.{sym, ◌∙◌}
 use lib.ListN.{length-replicate}
 use lib.Seq.{length-take-le}
-use Rattle.smear_run.proofs.Straight.{short-done, refused-text}
+use Rattle.smear_run.proofs.Straight.{short_done, refused_text_holds}
 use Rattle.smear_run.proofs.output.run_short.Statement.{statement}
 use Rattle.smear_run.proofs.output.run_short.Tie as tie
 
@@ -31,7 +31,7 @@ returns : tie.Need-returns
 returns c =
     let filtered = c.before.before.before in
     let start = filtered.before.before.before.before in
-    short-done start.args.«record» start.args.n start.requires.0 start.args.picture.now
+    short_done start.args.«record» start.args.n start.requires.0 start.args.picture.now
     filtered.filter.ensures c.enum_told.given.1 start.requires.1
 
 same_length : tie.Need-same-length
@@ -43,7 +43,7 @@ returns-2 c =
     let named = put.before.before.before in
     let filtered = named.before.before.before in
     let start = filtered.before.before.before.before in
-    refused-text start.args.«record» start.args.picture.now filtered.filter.ensures
+    refused_text_holds start.args.«record» start.args.picture.now filtered.filter.ensures
     named.number.given.1 put.put-refusal.ensures
 
 pub run-short-spec : {M : Type 1} → statement M

@@ -3,7 +3,7 @@ use borrow.Author.Rules.{rules}
 use mathlib.Core.Path.{sym, ◌∙◌}
 use native.Mathlib.Omega.{arith}
 use lib.Seq.{length-take-le}
-use Rattle.smear_run.proofs.Straight.{whole-done, whole-refused}
+use Rattle.smear_run.proofs.Straight.{whole_done, whole_refused}
 use Rattle.smear_run.proofs.output.run_whole.Statement.{statement}
 use Rattle.smear_run.proofs.output.run_whole.Tie as tie
 
@@ -52,7 +52,7 @@ returns c =
     let filtered = named.before.before.before.before in
     let start = filtered.before.before.before.before in
     let a = start.args in
-    whole-done a.«record» a.n start.requires.0 a.picture.now filtered.filter.ensures
+    whole_done a.«record» a.n start.requires.0 a.picture.now filtered.filter.ensures
     named.result.given.1 a.out.now _ start.requires.1
     (filtered.filter.auto.1.1.0 ∙ length-take-le _ _ (omega (arith, start.requires.1)))
     wrote.write.ensures wrote.write.auto.1.0
@@ -67,7 +67,7 @@ returns-2 c =
     let filtered = named.before.before.before.before in
     let start = filtered.before.before.before.before in
     let a = start.args in
-    whole-refused a.«record» a.n a.picture.now a.out.now filtered.filter.ensures
+    whole_refused a.«record» a.n a.picture.now a.out.now filtered.filter.ensures
     named.number.given.1 put.put-refusal.ensures
 
 pub run-whole-spec : {M : Type 1} → statement M

@@ -1,6 +1,6 @@
 -- `smear_run::text::put_refusal` meets its contract.
 use borrow.Author.Rules.{rules}
-use Rattle.smear_run.proofs.Fronts.{one-digit, two_digits}
+use Rattle.smear_run.proofs.Fronts.{one_digit, two_digits}
 use Rattle.smear_run.proofs.text.put_refusal.Statement.{statement}
 use Rattle.smear_run.proofs.text.put_refusal.Tie as tie
 
@@ -23,7 +23,7 @@ returns : tie.Need-returns
 returns c =
     let put = c.before.before in
     let at-if1 = put.before.before.before.before.before in
-    rw (one-digit _ at-if1.if1.true) put.put-text.ensures
+    rw (one_digit _ at-if1.if1.true) put.put-text.ensures
 
 add-text : tie.Need-overflow-add-text
 add-text c = search rules

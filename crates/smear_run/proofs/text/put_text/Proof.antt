@@ -1,11 +1,11 @@
 -- `smear_run::text::put_text` meets its contract.
 use borrow.Author.Rules.{rules}
-use Rattle.smear_run.proofs.Fronts.{put-short, put-copied}
+use Rattle.smear_run.proofs.Fronts.{put_short, put_copied}
 use Rattle.smear_run.proofs.text.put_text.Statement.{statement}
 use Rattle.smear_run.proofs.text.put_text.Tie as tie
 
 returns : tie.Need-returns
-returns c = put-short c.before.before.before.args.text.now _ c.if1.true
+returns c = put_short c.before.before.before.args.text.now _ c.if1.true
 
 copy-requires : tie.Need-copy-requires
 copy-requires c κs = search rules
@@ -17,7 +17,7 @@ returns-2 : tie.Need-returns-2
 returns-2 c =
     let copied = c.before.before in
     let left = copied.before.before in
-    put-copied left.before.before.before.args.text.now _ left.if1.false copied.copy.ensures.0
+    put_copied left.before.before.before.args.text.now _ left.if1.false copied.copy.ensures.0
     copied.copy.ensures.1
 
 pub put-text-spec : {M : Type 1} → statement M

@@ -3,10 +3,10 @@ use borrow.Author.Rules.{rules}
 use mathlib.Core.Path.{sym, ap, ◌∙◌}
 use lib.IntN.{ℤ, pos}
 use lib.ListN.{length-replicate}
-use Rattle.smear_run.specs.Parts.{measuredAnswer}
-use Rattle.smear_run.specs.Stage.{lineScratch}
+use Rattle.smear_run.specs.Parts.{measured_answer}
+use Rattle.smear_run.specs.Stage.{line_scratch}
 use Rattle.smear_run.specs.declared.filters.FilterAnswer.TheVariants.{Done}
-use Rattle.smear_run.proofs.Stages.{job-filtered, measured-short}
+use Rattle.smear_run.proofs.Stages.{job_filtered, measured_short}
 use Rattle.smear_run.proofs.whole_job.whole_job.Statement.{statement}
 use Rattle.smear_run.proofs.whole_job.whole_job.Tie as tie
 
@@ -33,7 +33,7 @@ with-result-requires c κs =
     let known = c.before in
     let told = known.before.before in
     let call = told.before.before.before in
-    measured-short _ call.restore.ensures.answered known.result.given.1
+    measured_short _ call.restore.ensures.answered known.result.given.1
 
 enum-known-number : tie.Need-enum-known-number
 enum-known-number c = search rules
@@ -50,8 +50,8 @@ returns c =
     let casts = config.before.before.before in
     let start = casts.before.before.before in
     let r = start.args.«record» in
-    job-filtered r _ _ _ _ _ config.job-config.ensures start.requires (length-replicate {A = ℤ} lineScratch (pos 0))
-    call.restore.ensures (ap Done c.with-result.ensures ∙ sym (ap (measuredAnswer r) known.result.given.1))
+    job_filtered r _ _ _ _ _ config.job-config.ensures start.requires (length-replicate {A = ℤ} line_scratch (pos 0))
+    call.restore.ensures (ap Done c.with-result.ensures ∙ sym (ap (measured_answer r) known.result.given.1))
 
 same-length-2 : tie.Need-same-length-2
 same-length-2 c = search rules
@@ -65,8 +65,8 @@ returns-2 c =
     let casts = config.before.before.before in
     let start = casts.before.before.before in
     let r = start.args.«record» in
-    job-filtered r _ _ _ _ _ config.job-config.ensures start.requires (length-replicate {A = ℤ} lineScratch (pos 0))
-    call.restore.ensures (sym (ap (measuredAnswer r) known.number.given.1))
+    job_filtered r _ _ _ _ _ config.job-config.ensures start.requires (length-replicate {A = ℤ} line_scratch (pos 0))
+    call.restore.ensures (sym (ap (measured_answer r) known.number.given.1))
 
 pub whole-job-spec : {M : Type 1} → statement M
 whole-job-spec =

@@ -1,7 +1,7 @@
 -- `summary::kernel::added_binomial` meets its contract.
 use borrow.Author.Rules.{rules}
 use mathlib.Core.Path.{sym, ◌∙◌}
-use Rattle.numbers.proofs.Test.{cond-true, cond-false}
+use Rattle.numbers.proofs.Test.{cond_true, cond_false}
 use Rattle.summary.proofs.kernel.added_binomial.Statement.{statement}
 use Rattle.summary.proofs.kernel.added_binomial.Tie as tie
 
@@ -12,10 +12,10 @@ add-result : tie.Need-overflow-add-result
 add-result c = search rules
 
 returns : tie.Need-returns
-returns c = sym (cond-true _ _ (sym c.before.is-binomial.ensures ∙ c.if1.true))
+returns c = sym (cond_true _ _ (sym c.before.is-binomial.ensures ∙ c.if1.true))
 
 returns-2 : tie.Need-returns-2
-returns-2 c = sym (cond-false _ _ (sym c.before.is-binomial.ensures ∙ c.if1.false))
+returns-2 c = sym (cond_false _ _ (sym c.before.is-binomial.ensures ∙ c.if1.false))
 
 pub added-binomial-spec : {M : Type 1} → statement M
 added-binomial-spec = tie.close (tie.spec is-binomial-requires add-result returns returns-2)

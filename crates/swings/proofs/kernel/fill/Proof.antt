@@ -14,10 +14,10 @@ use denote.Struct.Laws as LL
 use Rattle.walks.proofs.Script.{Room, none, some, Ura, full_share, Ty, named, w64, Val, vint, Fits, SProp, emp, id⊢}
 use Rattle.walks.proofs.Script.{Memory, Routine, Tables, Lfts, Shares, toks, Fun, fact_i, Item, ‵}
 use Rattle.walks.proofs.Script.{raw, ◌⊛◌, ◌$◌, !, move, keep, use1, split, rewrite, fsplit, fjoin, Is, row, slice_val}
-use Rattle.walks.proofs.Script.{ShrSlice, shr_slice_copy, nothing, Args, Triple, cited, asked, calls-on-last, settled}
+use Rattle.walks.proofs.Script.{ShrSlice, shr_slice_copy, nothing, Args, Triple, cited, asked, calls_on_last, settled}
 use Rattle.walks.proofs.Script.{Argument, made, had, kinds, Of, values-in, Values, env, held, returns, Open, opens}
-use Rattle.walks.proofs.Script.{closes, writes-elem, lent, shared, execs, ◌▸◌, operates, whiles, Valid, Asks, Shows}
-use Rattle.walks.proofs.Script.{Ends, Begun, meets, token, token-of, tokens, tokens-of, only-last}
+use Rattle.walks.proofs.Script.{closes, writes_elem, lent, shared, execs, ◌▸◌, operates, whiles, Valid, Asks, Shows}
+use Rattle.walks.proofs.Script.{Ends, Begun, meets, token, token_of, tokens, tokens_of, only_last}
 use Rattle.swings.specs.Line.{ValidPlan}
 use Rattle.swings.specs.Scan.{rest, begun, Scans, Filled}
 use Rattle.swings.specs.declared.Swing.{Swing}
@@ -95,8 +95,8 @@ module _ {M : Type 1} {𝓤 : Ura M} (𝓛 : Logic 𝓤) (mem : Memory → SProp
       has-place : (t : At) → t.out.found ≡ true → t.out.at < length t.list
       has-place t on = L.within Real xs m ys t asks.3 on asks.2
 
-      place-fits : (t : At) → t.out.found ≡ true → Fits w64 (t.out.at * 16)
-      place-fits t on = record { fits = omega (arith, has-place t on, t.same, room.1) }
+      place_fits : (t : At) → t.out.found ≡ true → Fits w64 (t.out.at * 16)
+      place_fits t on = record { fits = omega (arith, has-place t on, t.same, room.1) }
 
       few_past : (t : At) → t.out.next.count < 2 ^ 63
       few_past t = omega (arith, t.counted, L.few Real xs m ys t asks.3, room.1)
@@ -104,29 +104,29 @@ module _ {M : Type 1} {𝓤 : Ura M} (𝓛 : Logic 𝓤) (mem : Memory → SProp
       walk : Begun arguments scan 𝓛 𝓣 code.function κs qs a bs Kf
       walk =
           execs ! $ rewrite ! 0 (λ (s : Scanned). ‵ (held E (σ s))) asks.1 refl $
-          move ! (1 ∷ []) $ tokens-of ! κs qs $ move ! (3 ∷ []) $ fsplit ! $ move ! (1 ∷ []) $ fsplit ! $
+          move ! (1 ∷ []) $ tokens_of ! κs qs $ move ! (3 ∷ []) $ fsplit ! $ move ! (1 ∷ []) $ fsplit ! $
           -- [the records; true; the bytes; the tokens; the locals]
           move ! (0 ∷ 4 ∷ []) $ opens ! tt S.the_row a.1.1.1.0 $ move ! (4 ∷ []) $
           token ! (κs.0 ▸ tt) (qs.0 ▸ tt) $ keep ! (5 ∷ 1 ∷ 0 ∷ 4 ∷ 2 ∷ []) $
           whiles ! 𝓣 (λ t. L.left Real xs m ys t.out) (λ t. σ t.out) Γ 6 6 (λ t. t.out.found) _ (λ
           t. refl) (λ t. tt)
           (λ t on q' again.
-          operates ! (vint w64 (t.out.at * 16)) refl refl (place-fits t on) refl tt (tt, place-fits t on) $ execs ! $
-          writes-elem ! swing t.list t.out.at t.out.swing _ _ (has-place t on) refl refl (LL.owed O.the_type
+          operates ! (vint w64 (t.out.at * 16)) refl refl (place_fits t on) refl tt (tt, place_fits t on) $ execs ! $
+          writes_elem ! swing t.list t.out.at t.out.swing _ _ (has-place t on) refl refl (LL.owed O.the_type
           O'.the_laws t.out _ t.real).1.1.0 $
           -- the scan goes on, with a copy of the bytes
           move ! (3 ∷ []) $ use1 𝓛 (Bytes ⊛ Bytes) ((shr_slice_copy 𝓛 (named 0) κs.0 u8).twice a.0 _) $
           split ! $ nothing ! $ move ! (1 ∷ 0 ∷ []) $ fjoin ! $ move ! (2 ∷ 4 ∷ 0 ∷ []) $
-          calls-on-last ! 𝓣 1 (had (shared 0 tt u8) ∷ made plan ∷ made scan ∷ []) scanned (next.clauses 𝓛 mem run)
+          calls_on_last ! 𝓣 1 (had (shared 0 tt u8) ∷ made plan ∷ made scan ∷ []) scanned (next.clauses 𝓛 mem run)
           known (κs.0 ▸ tt) (qs.0 ▸ tt) (a.0 ▸ m ▸ t.out.next ▸ tt) tt (are.1.0 ▸ is-next t ▸ tt) (fact_i 𝓤 _ (emp
           𝓤) (asks.0, few_past t, t.opened)) refl (λ r _. Scans xs m t.out.next r) (λ r _. id⊢ 𝓤 _) (λ r _ c is.
           settled ! scanned r tt refl is $ keep ! (0 ∷ 4 ∷ 1 ∷ 3 ∷ 5 ∷ []) $
           again (L.after Real xs m ys t asks.3 on asks.2 r c is) _ refl (L.less Real xs m ys t asks.3 on asks.2 r c)))
           (λ t off. execs ! $ move ! (1 ∷ 4 ∷ []) $
           closes ! tt S.the_row a.1.1.1.0 t.list t.same $ move ! (3 ∷ []) $
-          token-of ! (κs.0 ▸ tt) (qs.0 ▸ tt) $ move ! (0 ∷ 2 ∷ []) $ tokens ! κs qs $
+          token_of ! (κs.0 ▸ tt) (qs.0 ▸ tt) $ move ! (0 ∷ 2 ∷ []) $ tokens ! κs qs $
           -- [the tokens; what says the last list; the locals; the bytes]
-          move ! (1 ∷ []) $ only-last ! 3 $ keep ! (2 ∷ 1 ∷ 0 ∷ []) $ returns ! refl $
+          move ! (1 ∷ []) $ only_last ! 3 $ keep ! (2 ∷ 1 ∷ 0 ∷ []) $ returns ! refl $
           ends t.out.next (tt ▸ tt ▸ tt ▸ t.list ▸ tt) (is-next t) (L.filled Real xs m ys t off))
           (L.starts Real xs m ys (subst Real asks.1 are.1.1.0))
 

@@ -5,9 +5,9 @@ use Prim.Native.Nat.{◌+◌, ◌-◌, ◌≤◌}
 use native.Mathlib.Omega.{arith}
 use mathlib.Core.Bool.{Bool, true, false}
 use Rattle.swings.specs.Line.{sample}
-use Rattle.swings.specs.Rise.{double, crossedAt, crossing_of}
-use Rattle.swings.proofs.Line.{sample-within}
-use Rattle.swings.proofs.Rise.{crossing-here, crossing-later, crossing-none}
+use Rattle.swings.specs.Rise.{double, crossed_at, crossing_of}
+use Rattle.swings.proofs.Line.{sample_within}
+use Rattle.swings.proofs.Rise.{crossing_here, crossing_later, crossing_none}
 use Rattle.swings.proofs.rises.crossing.Statement.{statement}
 use Rattle.swings.proofs.rises.crossing.Tie as tie
 
@@ -20,7 +20,7 @@ abbrev decreases-loop : tie.decreases-loop
 decreases-loop «data» start step a b level rising v0₀ i₀ v0 i = b - i
 
 double-at-requires : tie.Need-double-at-requires invariant-loop decreases-loop
-double-at-requires c κs = let d = c.before in sample-within d.args.start d.args.step d.requires.0 d.requires.2
+double-at-requires c κs = let d = c.before in sample_within d.args.start d.args.step d.requires.0 d.requires.2
 
 loop-holds : tie.Need-loop-init invariant-loop decreases-loop
 loop-holds c = (c.before.before.requires.0, c.double-at.ensures, refl)
@@ -32,7 +32,7 @@ double-at-requires-2 : tie.Need-double-at-requires-2 invariant-loop decreases-lo
 double-at-requires-2 c κs =
     let l = c.before in
     let d = l.before.before.before in
-    sample-within d.args.start d.args.step {i = l.loop.i + 1} (omega arith) d.requires.2
+    sample_within d.args.start d.args.step {i = l.loop.i + 1} (omega arith) d.requires.2
 
 crossed-requires : tie.Need-crossed-requires invariant-loop decreases-loop
 crossed-requires c κs = tt
@@ -41,7 +41,7 @@ crossed-requires c κs = tt
 tested : (c : tie.After-crossed invariant-loop decreases-loop) (t : Bool) → c.crossed.result ≡ t
     → let d = c.before.before.before in let a = d.before.before.before.args in
     let x = sample a.«data».now a.start a.step in
-    crossedAt a.rising a.level (double x d.loop.i) (double x (d.loop.i + 1)) ≡ t
+    crossed_at a.rising a.level (double x d.loop.i) (double x (d.loop.i + 1)) ≡ t
 tested c t e = rw (c.before.before.before.loop.invariant.1, c.before.double-at2.ensures) at
     (sym c.crossed.ensures ∙ e)
 
@@ -54,7 +54,7 @@ returns c =
     let d = e.before.before.before in
     let a = d.before.before.before.args in
     rw (c.place.ensures, d.loop.invariant.1, e.before.double-at2.ensures)
-    (sym (crossing-here (sample a.«data».now a.start a.step) a.rising a.level d.loop.i a.b
+    (sym (crossing_here (sample a.«data».now a.start a.step) a.rising a.level d.loop.i a.b
     e.before.before.loop-test.true (tested e true c.before.if1.true)) ∙ d.loop.invariant.2)
 
 add-i : tie.Need-overflow-add-i invariant-loop decreases-loop
@@ -70,7 +70,7 @@ loop-again c =
     let a = d.before.before.before.args in (
       omega arith,
       e.before.double-at2.ensures,
-      sym (crossing-later (sample a.«data».now a.start a.step) a.rising a.level d.loop.i a.b
+      sym (crossing_later (sample a.«data».now a.start a.step) a.rising a.level d.loop.i a.b
           e.before.before.loop-test.true (tested e false c.if1.false)) ∙ d.loop.invariant.2,
     )
 
@@ -78,7 +78,7 @@ returns-2 : tie.Need-returns-2 invariant-loop decreases-loop
 returns-2 c =
     let d = c.before in
     let a = d.before.before.before.args in
-    sym (crossing-none (sample a.«data».now a.start a.step) a.rising a.level d.loop.i a.b
+    sym (crossing_none (sample a.«data».now a.start a.step) a.rising a.level d.loop.i a.b
     c.loop-test.false) ∙ d.loop.invariant.2
 
 pub crossing-spec : {M : Type 1} → statement M

@@ -10,7 +10,7 @@ int-to-float-result : tie.Need-int-to-float-result
 int-to-float-result c = search rules
 
 returns : tie.Need-returns
-returns c = rw c.before.sample-at.ensures
+returns c = rw c.before.sample_at_lem.ensures
 
 pub double-at-spec : {M : Type 1} → statement M
 double-at-spec = tie.close (tie.spec sample-at-requires int-to-float-result returns)

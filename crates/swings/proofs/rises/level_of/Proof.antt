@@ -2,7 +2,7 @@
 use mir.Syntax.{w32}
 use mir.Facts.{to_z-of_z}
 use borrow.Author.Rules.{rules}
-use Rattle.swings.specs.Rise.{levelOf}
+use Rattle.swings.specs.Rise.{level_of}
 use Rattle.swings.proofs.rises.level_of.Statement.{statement}
 use Rattle.swings.proofs.rises.level_of.Tie as tie
 
@@ -16,7 +16,7 @@ int-to-float-result-2 : tie.Need-int-to-float-result-2
 int-to-float-result-2 c = search rules
 
 returns : tie.Need-returns
-unfolding levelOf
+unfolding level_of
 returns c = rw (
   to_z-of_z {w = w32} {z = c.before.amplitude.result} (record { sfits = c.before.amplitude.type-inv }),
   c.before.amplitude.ensures,

@@ -8,7 +8,7 @@ use lib.Ieee.{binary64, in_float}
 use mir.Syntax.{w64}
 use mir.Val.{to_z}
 use mir.Facts.{to_z_pos}
-use Rattle.swings.specs.Rise.{placeAt}
+use Rattle.swings.specs.Rise.{place_at}
 use Rattle.swings.proofs.rises.place.Statement.{statement}
 use Rattle.swings.proofs.rises.place.Tie as tie
 
@@ -26,11 +26,11 @@ int-to-float-at : tie.Need-int-to-float-at
 int-to-float-at c = rw (same c.before.args.i c.before.requires) (whole-double c.before.args.i c.before.requires)
 
 returns : tie.Need-returns
-unfolding placeAt
+unfolding place_at
 returns c = rw (same c.before.before.args.i c.before.before.requires, c.if1.true)
 
 returns-2 : tie.Need-returns-2
-unfolding placeAt
+unfolding place_at
 returns-2 c = rw (same c.before.before.args.i c.before.before.requires, c.if1.false)
 
 pub place-spec : {M : Type 1} → statement M

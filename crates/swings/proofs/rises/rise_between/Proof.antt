@@ -3,7 +3,7 @@ use native.Mathlib.Omega.{arith}
 use mir.Syntax.{w32}
 use mir.Facts.{to_z_pos}
 use borrow.Author.Rules.{rules}
-use Rattle.swings.specs.Rise.{riseBetween}
+use Rattle.swings.specs.Rise.{rise_between}
 use Rattle.swings.proofs.rises.rise_between.Statement.{statement}
 use Rattle.swings.proofs.rises.rise_between.Tie as tie
 
@@ -14,7 +14,7 @@ enum_told : tie.Need-enum-told
 enum_told c = search rules
 
 returns : tie.Need-returns
-unfolding riseBetween
+unfolding rise_between
 returns c = rw c.enum_told.given.1
 
 enum-known-high : tie.Need-enum-known-high
@@ -24,14 +24,14 @@ enum-told-2 : tie.Need-enum-told-2
 enum-told-2 c = search rules
 
 returns-2 : tie.Need-returns-2
-unfolding riseBetween
+unfolding rise_between
 returns-2 c = rw (c.before.before.before.low.given.1, c.enum-told2.given.1)
 
 cast-t9 : tie.Need-overflow-cast-t9
 cast-t9 c = search rules
 
 returns-3 : tie.Need-returns-3
-unfolding riseBetween
+unfolding rise_between
 returns-3 c =
     let h = c.before.before in
     let d = h.before.before.before in
@@ -39,7 +39,7 @@ returns-3 c =
     rw (d.low.given.1, h.high.given.1, e, c.if1.true)
 
 returns-4 : tie.Need-returns-4
-unfolding riseBetween
+unfolding rise_between
 returns-4 c = let h = c.before.before in
     rw (h.before.before.before.low.given.1, h.high.given.1, c.if1.false)
 

@@ -2,13 +2,13 @@
 use mathlib.Core.Path.{sym}
 use borrow.Author.Rules.{rules}
 use Rattle.swings.specs.Line.{sample}
-use Rattle.swings.proofs.Line.{sample-within}
-use Rattle.swings.proofs.Rise.{rise-small, rise-is}
+use Rattle.swings.proofs.Line.{sample_within}
+use Rattle.swings.proofs.Rise.{rise_small, rise_is}
 use Rattle.swings.proofs.rises.rise_of.Statement.{statement}
 use Rattle.swings.proofs.rises.rise_of.Tie as tie
 
 sample-at-requires : tie.Need-sample-at-requires
-sample-at-requires c κs = let d = c.before in sample-within d.args.start d.args.step d.requires.0 d.requires.2
+sample-at-requires c κs = let d = c.before in sample_within d.args.start d.args.step d.requires.0 d.requires.2
 
 sample-at-requires-2 : tie.Need-sample-at-requires-2
 sample-at-requires-2 c κs = search rules
@@ -20,9 +20,9 @@ returns : tie.Need-returns
 returns c =
     let d = c.before.before in
     let a = d.before.before.before.args in
-    let h = rw (c.before.swing-of.ensures, d.before.sample-at.ensures, d.sample-at2.ensures) at
+    let h = rw (c.before.swing-of.ensures, d.before.sample_at_lem.ensures, d.sample-at2.ensures) at
     c.if1.true in
-    sym (rise-small a.minimum-amplitude (sample a.«data».now a.start a.step) a.a a.b h)
+    sym (rise_small a.minimum-amplitude (sample a.«data».now a.start a.step) a.a a.b h)
 
 level-of-requires : tie.Need-level-of-requires
 level-of-requires c κs = search rules
@@ -45,9 +45,9 @@ returns-2 c =
     let e = k.before in
     let d = e.before.before.before in
     let a = d.before.before.before.args in
-    let h = rw (e.before.before.swing-of.ensures, d.before.sample-at.ensures, d.sample-at2.ensures) at
+    let h = rw (e.before.before.swing-of.ensures, d.before.sample_at_lem.ensures, d.sample-at2.ensures) at
     e.before.if1.false in
-    rw (rise-is a.minimum-amplitude (sample a.«data».now a.start a.step) a.a a.b h)
+    rw (rise_is a.minimum-amplitude (sample a.«data».now a.start a.step) a.a a.b h)
     (rw (
       c.rise-between.ensures,
       c.before.crossing2.ensures,
@@ -55,7 +55,7 @@ returns-2 c =
       c.before.before.level-of2.ensures,
       e.level-of.ensures,
       e.before.before.swing-of.ensures,
-      d.before.sample-at.ensures,
+      d.before.sample_at_lem.ensures,
       d.sample-at2.ensures,
     ))
 

@@ -4,25 +4,25 @@ use Prim.Native.Nat.{◌+◌, ◌-◌, ◌≤◌}
 use native.Mathlib.Nat.{le_refl}
 use native.Mathlib.Omega.{arith}
 use Rattle.swings.specs.Line.{sample}
-use Rattle.swings.specs.Runs.{Level, runsFrom, runsUpTo}
-use Rattle.swings.proofs.Line.{sample-within}
-use Rattle.swings.proofs.Runs.{level-on}
+use Rattle.swings.specs.Runs.{Level, runs_from, runs_up_to}
+use Rattle.swings.proofs.Line.{sample_within}
+use Rattle.swings.proofs.Runs.{level_on}
 use Rattle.swings.proofs.run.level_end.Statement.{statement}
 use Rattle.swings.proofs.run.level_end.Tie as tie
 
 abbrev invariant-loop : tie.invariant-loop
 invariant-loop «data» start step last a v i₀ i =
     let x = sample «data» start step in
-    (a ≤ i) × (i ≤ last) × (v ≡ x i) × (runsUpTo x last a ≡ runsFrom x a Level i (last - i))
+    (a ≤ i) × (i ≤ last) × (v ≡ x i) × (runs_up_to x last a ≡ runs_from x a Level i (last - i))
 
 abbrev decreases-loop : tie.decreases-loop
 decreases-loop «data» start step last a v i₀ i = last - i
 
 sample-at-requires : tie.Need-sample-at-requires invariant-loop decreases-loop
-sample-at-requires c κs = let d = c.before in sample-within d.args.start d.args.step d.requires.0 d.requires.1
+sample-at-requires c κs = let d = c.before in sample_within d.args.start d.args.step d.requires.0 d.requires.1
 
 loop-holds : tie.Need-loop-init invariant-loop decreases-loop
-loop-holds c = let d = c.before.before in (le_refl d.args.a, d.requires.0, c.sample-at.ensures, refl)
+loop-holds c = let d = c.before.before in (le_refl d.args.a, d.requires.0, c.sample_at_lem.ensures, refl)
 
 add-sample-at : tie.Need-overflow-add-sample-at invariant-loop decreases-loop
 add-sample-at c = omega arith
@@ -31,7 +31,7 @@ sample-at-requires-2 : tie.Need-sample-at-requires-2 invariant-loop decreases-lo
 sample-at-requires-2 c κs =
     let l = c.before in
     let d = l.before.before.before in
-    sample-within d.args.start d.args.step {i = l.loop.i + 1} (omega arith) d.requires.1
+    sample_within d.args.start d.args.step {i = l.loop.i + 1} (omega arith) d.requires.1
 
 returns : tie.Need-returns invariant-loop decreases-loop
 returns c =
@@ -57,7 +57,7 @@ loop-again c =
       omega arith,
       omega arith,
       sym next,
-      l.loop.invariant.3 ∙ level-on (sample a.«data».now a.start a.step) a.last a.a l.loop.i
+      l.loop.invariant.3 ∙ level_on (sample a.«data».now a.start a.step) a.last a.a l.loop.i
           c.before.before.loop-test.true (next ∙ l.loop.invariant.2),
     )
 

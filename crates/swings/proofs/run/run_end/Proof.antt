@@ -13,9 +13,9 @@ use mir.Val.{to_z, of_z}
 use mir.Facts.{to_z-of_z}
 use Rattle.swings.specs.Line.{sample}
 use Rattle.swings.specs.Runs.{SlopeEnd}
-use Rattle.swings.proofs.Line.{sample-within}
-use Rattle.swings.proofs.Slopes.{change-up, change-small, change-some}
-use Rattle.swings.proofs.Runs.{level-last, level-slope}
+use Rattle.swings.proofs.Line.{sample_within}
+use Rattle.swings.proofs.Slopes.{change_up, change_small, change_some}
+use Rattle.swings.proofs.Runs.{level_last, level_slope}
 use Rattle.swings.proofs.run.run_end.Statement.{statement}
 use Rattle.swings.proofs.run.run_end.Tie as tie
 
@@ -28,14 +28,14 @@ returns c =
     let a = e.before.before.args in
     record {
       runs = e.level-end.ensures.runs
-          ∙ level-last (sample a.«data».now a.start a.step) a.last a.a e.level-end.result
+          ∙ level_last (sample a.«data».now a.start a.step) a.last a.a e.level-end.result
           c.if1.true;
       within = tt;
     }
 
 sample-at-requires : tie.Need-sample-at-requires
 sample-at-requires c κs = let s = c.before.before.before in
-    sample-within s.args.start s.args.step (le_of_lt c.if1.false) s.requires.1
+    sample_within s.args.start s.args.step (le_of_lt c.if1.false) s.requires.1
 
 add-sample-at : tie.Need-overflow-add-sample-at
 add-sample-at c = search rules
@@ -44,7 +44,7 @@ sample-at-requires-2 : tie.Need-sample-at-requires-2
 sample-at-requires-2 c κs =
     let e = c.before.before in
     let s = e.before.before in
-    sample-within s.args.start s.args.step {i = e.level-end.result + 1} (omega arith) s.requires.1
+    sample_within s.args.start s.args.step {i = e.level-end.result + 1} (omega arith) s.requires.1
 
 amplitude-requires : tie.Need-amplitude-requires
 amplitude-requires c κs = tt
@@ -58,7 +58,7 @@ slope-is : (c : tie.After-amplitude) → let e = level c in let a = e.before.bef
     let x = sample a.«data».now a.start a.step in let i = e.level-end.result in
     to_z w32 (of_z w32 c.amplitude.result) ≡ pos (x (i + 1)) -ℤ pos (x i)
 slope-is c = to_z-of_z (record { sfits = c.amplitude.type-inv }) ∙ c.amplitude.ensures
-    ∙ ap₂ (λ (w v : ℕ). pos w -ℤ pos v) c.before.sample-at2.ensures c.before.before.sample-at.ensures
+    ∙ ap₂ (λ (w v : ℕ). pos w -ℤ pos v) c.before.sample-at2.ensures c.before.before.sample_at_lem.ensures
 
 rising-is : (c : tie.After-amplitude) → let e = level c in let a = e.before.before.args in
     let x = sample a.«data».now a.start a.step in let i = e.level-end.result in
@@ -67,7 +67,7 @@ rising-is c =
     let e = level c in
     let a = e.before.before.args in
     let x = sample a.«data».now a.start a.step in
-    ap (lt_z (pos 0)) (slope-is c) ∙ change-up (x e.level-end.result) (x (e.level-end.result + 1))
+    ap (lt_z (pos 0)) (slope-is c) ∙ change_up (x e.level-end.result) (x (e.level-end.result + 1))
 
 add-slope-end : tie.Need-overflow-add-slope-end
 add-slope-end c = search rules
@@ -83,8 +83,8 @@ slope-end-requires c κs =
     λ i. omega (arith, k.shared-slice-known.given (s.args.start + i * s.args.step)) in (
       omega (arith, l.if1.false),
       s.requires.1,
-      rw (slope-is c) (change-small (x i) (x (i + 1)) (byte i) (byte (i + 1))),
-      λ z. change-some (x i) (x (i + 1)) (l.before.level-end.ensures.differs l.if1.false) (sym (slope-is c) ∙ z),
+      rw (slope-is c) (change_small (x i) (x (i + 1)) (byte i) (byte (i + 1))),
+      λ z. change_some (x i) (x (i + 1)) (l.before.level-end.ensures.differs l.if1.false) (sym (slope-is c) ∙ z),
     )
 
 -- where the first run ends
@@ -104,7 +104,7 @@ returns-2 c =
     record {
       runs =
           v.runs
-          ∙ level-slope (sample a.«data».now a.start a.step) a.last a.a e.level-end.result
+          ∙ level_slope (sample a.«data».now a.start a.step) a.last a.a e.level-end.result
           l.if1.false (v.differs l.if1.false)
           ∙ r.same a.a
           ∙ r.ends a.a;

@@ -11,10 +11,10 @@ use mir.Syntax.{w32}
 use mir.Val.{to_z, of_z}
 use mir.Facts.{to_z-of_z}
 use Rattle.swings.specs.Line.{sample}
-use Rattle.swings.specs.Runs.{slopeBetween, turnsAt, runsFrom, slopeOf, SlopeEnd}
-use Rattle.swings.proofs.Line.{sample-within}
-use Rattle.swings.proofs.Slopes.{change-small, turns-product}
-use Rattle.swings.proofs.Runs.{runs-turn, slope-on, slope-last}
+use Rattle.swings.specs.Runs.{slope_between, turns_at, runs_from, slope_of, SlopeEnd}
+use Rattle.swings.proofs.Line.{sample_within}
+use Rattle.swings.proofs.Slopes.{change_small, turns_product}
+use Rattle.swings.proofs.Runs.{runs_turn, slope_on, slope_last}
 use Rattle.swings.proofs.run.slope_end.Statement.{statement}
 use Rattle.swings.proofs.run.slope_end.Tie as tie
 
@@ -22,17 +22,17 @@ abbrev invariant-loop : tie.invariant-loop
 invariant-loop «data» start step last from slope v₀ i₀ v i =
     let x = sample «data» start step in
     (from ≤ i) × (i ≤ last) × (v ≡ x i)
-    × ((a : ℕ) → runsFrom x a (slopeOf (lt_z (pos 0) (to_z w32 slope))) from (last - from) ≡ runsFrom x a
-    (slopeOf (lt_z (pos 0) (to_z w32 slope))) i (last - i))
+    × ((a : ℕ) → runs_from x a (slope_of (lt_z (pos 0) (to_z w32 slope))) from (last - from) ≡ runs_from x a
+    (slope_of (lt_z (pos 0) (to_z w32 slope))) i (last - i))
 
 abbrev decreases-loop : tie.decreases-loop
 decreases-loop «data» start step last from slope v₀ i₀ v i = last - i
 
 sample-at-requires : tie.Need-sample-at-requires invariant-loop decreases-loop
-sample-at-requires c κs = let d = c.before in sample-within d.args.start d.args.step d.requires.0 d.requires.1
+sample-at-requires c κs = let d = c.before in sample_within d.args.start d.args.step d.requires.0 d.requires.1
 
 loop-holds : tie.Need-loop-init invariant-loop decreases-loop
-loop-holds c = let d = c.before.before in (le_refl d.args.from, d.requires.0, c.sample-at.ensures, λ a. refl)
+loop-holds c = let d = c.before.before in (le_refl d.args.from, d.requires.0, c.sample_at_lem.ensures, λ a. refl)
 
 add-next : tie.Need-overflow-add-next invariant-loop decreases-loop
 add-next c = omega arith
@@ -41,7 +41,7 @@ sample-at-requires-2 : tie.Need-sample-at-requires-2 invariant-loop decreases-lo
 sample-at-requires-2 c κs =
     let l = c.before in
     let d = l.before.before.before in
-    sample-within d.args.start d.args.step {i = c.before.loop.at + 1} (omega arith) d.requires.1
+    sample_within d.args.start d.args.step {i = c.before.loop.at + 1} (omega arith) d.requires.1
 
 amplitude-requires : tie.Need-amplitude-requires invariant-loop decreases-loop
 amplitude-requires c κs = tt
@@ -72,20 +72,20 @@ opposes-requires c κs =
     λ i. omega (arith, k.shared-slice-known.given (s.args.start + i * s.args.step)) in (
       rw (held-is s) s.requires.2,
       rw (change-is c)
-          (change-small (x l.loop.at) (x (l.loop.at + 1)) (byte l.loop.at) (byte (l.loop.at + 1))),
+          (change_small (x l.loop.at) (x (l.loop.at + 1)) (byte l.loop.at) (byte (l.loop.at + 1))),
     )
 
 -- the test as one of the line's samples
 tested : (c : tie.After-opposes invariant-loop decreases-loop) (t : Bool) → c.opposes.result ≡ t
     → let p = c.before in let l = p.before.before.before in let s = l.before.before.before in
     let x = sample s.args.«data».now s.args.start s.args.step in
-    turnsAt (slopeOf (lt_z (pos 0) (held s))) (slopeBetween (x l.loop.at) (x (l.loop.at + 1))) ≡ t
+    turns_at (slope_of (lt_z (pos 0) (held s))) (slope_between (x l.loop.at) (x (l.loop.at + 1))) ≡ t
 tested c t e =
     let p = c.before in
     let l = p.before.before.before in
     let s = l.before.before.before in
     let x = sample s.args.«data».now s.args.start s.args.step in
-    sym (turns-product (held s) (λ z. s.requires.3 (sym (held-is s) ∙ z)) (x l.loop.at) (x (l.loop.at + 1)))
+    sym (turns_product (held s) (λ z. s.requires.3 (sym (held-is s) ∙ z)) (x l.loop.at) (x (l.loop.at + 1)))
     ∙ ap (λ (z : ℤ). lt_z (held s *ℤ z) (pos 0)) (sym (change-is c.before)) ∙ sym c.opposes.ensures ∙ e
 
 returns : tie.Need-returns invariant-loop decreases-loop
@@ -100,7 +100,7 @@ returns c =
       from = l.loop.invariant.0;
       within = l.loop.invariant.1;
       same = l.loop.invariant.3;
-      ends = λ r. runs-turn x a.last r (slopeOf (lt_z (pos 0) (held s))) l.loop.at
+      ends = λ r. runs_turn x a.last r (slope_of (lt_z (pos 0) (held s))) l.loop.at
           p.before.before.loop-test.true (tested t true c.if1.true);
     } in
     rw (held-is s) at ended
@@ -118,7 +118,7 @@ loop-again c =
       omega arith,
       t.before.before.sample-at2.ensures,
       λ r. l.loop.invariant.3 r
-          ∙ slope-on (sample a.«data».now a.start a.step) a.last
+          ∙ slope_on (sample a.«data».now a.start a.step) a.last
           (lt_z (pos 0) (held l.before.before.before)) l.loop.at r p.before.before.loop-test.true
           (tested t false c.if1.false),
     )
@@ -133,7 +133,7 @@ returns-2 c =
       from = l.loop.invariant.0;
       within = l.loop.invariant.1;
       same = l.loop.invariant.3;
-      ends = λ r. slope-last x a.last (lt_z (pos 0) (held s)) l.loop.at r c.loop-test.false;
+      ends = λ r. slope_last x a.last (lt_z (pos 0) (held s)) l.loop.at r c.loop-test.false;
     } in
     rw (held-is s) at ended
 

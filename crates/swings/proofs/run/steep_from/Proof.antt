@@ -7,9 +7,9 @@ use native.Mathlib.Omega.{arith}
 use mathlib.Core.Bool.{not, ◌&&◌}
 use lib.Dec.{ltb}
 use Rattle.swings.specs.Line.{sample}
-use Rattle.swings.specs.Runs.{runsFrom, slopeOf}
-use Rattle.swings.proofs.Line.{sample-within}
-use Rattle.swings.proofs.Runs.{level-slope, Left, left-on}
+use Rattle.swings.specs.Runs.{runs_from, slope_of}
+use Rattle.swings.proofs.Line.{sample_within}
+use Rattle.swings.proofs.Runs.{level_slope, Left, left_on}
 use Rattle.swings.proofs.run.steep_from.Statement.{statement}
 use Rattle.swings.proofs.run.steep_from.Tie as tie
 
@@ -32,7 +32,7 @@ returns c = record { from = le_refl _; runs = refl }
 
 sample-at-requires : tie.Need-sample-at-requires invariant-loop decreases-loop
 sample-at-requires c κs = let d = c.before.before.before in
-    sample-within d.args.start d.args.step d.requires.0 d.requires.1
+    sample_within d.args.start d.args.step d.requires.0 d.requires.1
 
 add-sample-at : tie.Need-overflow-add-sample-at invariant-loop decreases-loop
 add-sample-at c = let e = c.before.before in
@@ -42,14 +42,14 @@ sample-at-requires-2 : tie.Need-sample-at-requires-2 invariant-loop decreases-lo
 sample-at-requires-2 c κs =
     let e = c.before.before in
     let s = e.before.before in
-    sample-within s.args.start s.args.step {i = e.level-end.result + 1} (omega (arith, c.before.if1.false))
+    sample_within s.args.start s.args.step {i = e.level-end.result + 1} (omega (arith, c.before.if1.false))
     s.requires.1
 
 sample-at-requires-3 : tie.Need-sample-at-requires-3 invariant-loop decreases-loop
 sample-at-requires-3 c κs =
     let e = c.before.before.before in
     let s = e.before.before in
-    sample-within s.args.start s.args.step e.level-end.ensures.within s.requires.1
+    sample_within s.args.start s.args.step e.level-end.ensures.within s.requires.1
 
 add_at : tie.Need-overflow-add-at invariant-loop decreases-loop
 add_at c = let o = c.before.before.before in
@@ -67,12 +67,12 @@ loop-holds c =
       past = omega (arith, v.from);
       within = omega (arith, o.if1.false);
       here = c.before.sample-at2.ensures;
-      there = c.before.before.sample-at.ensures;
+      there = c.before.before.sample_at_lem.ensures;
       began = le_refl _;
       runs =
           v.runs
-          ∙ level-slope x a.last a.b i o.if1.false (v.differs o.if1.false)
-          ∙ ap₂ (λ (p q : ℕ). runsFrom x a.b (slopeOf (ltb p q)) (i + 1) (a.last - (i + 1)))
+          ∙ level_slope x a.last a.b i o.if1.false (v.differs o.if1.false)
+          ∙ ap₂ (λ (p q : ℕ). runs_from x a.b (slope_of (ltb p q)) (i + 1) (a.last - (i + 1)))
           (sym c.sample-at3.ensures) (sym c.before.sample-at2.ensures);
       passed = refl;
     }
@@ -83,7 +83,7 @@ add-next c = record { fits = omega (arith, c.loop-test.true, (entry c.before).fi
 sample-at-requires-4 : tie.Need-sample-at-requires-4 invariant-loop decreases-loop
 sample-at-requires-4 c κs =
     let s = entry c.before in
-    sample-within s.args.start s.args.step {i = c.before.loop.at + 1} (omega (arith, c.loop-test.true))
+    sample_within s.args.start s.args.step {i = c.before.loop.at + 1} (omega (arith, c.loop-test.true))
     s.pre.1
 
 turns-requires : tie.Need-turns-requires invariant-loop decreases-loop
@@ -123,7 +123,7 @@ loop-again c =
     let l = t.before.before.before in
     let a = (entry l).args in
     rw (c.before.before.first_of.ensures, c.before.value_of.ensures, c.rises-on.ensures)
-    (left-on (sample a.«data».now a.start a.step) a.least a.last a.b l.loop.a l.loop.value
+    (left_on (sample a.«data».now a.start a.step) a.least a.last a.b l.loop.a l.loop.value
     l.loop.rises l.loop.v l.loop.at
     l.loop.invariant t.before.before.loop-test.true t.before.sample-at4.result
     t.before.sample-at4.ensures t.turns.result t.turns.ensures

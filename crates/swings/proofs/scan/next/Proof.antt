@@ -7,10 +7,10 @@ use borrow.Author.Rules.{rules}
 use borrow.Author.Tests.{not-true, not-false}
 use mir.Syntax.{w32}
 use mir.ValLaws.{to_z-of_z}
-use Rattle.swings.specs.Line.{linesOn}
-use Rattle.swings.specs.Scan.{swingsAt, remainingSwings, raisedTo}
+use Rattle.swings.specs.Line.{lines_on}
+use Rattle.swings.specs.Scan.{swings_at, remaining_swings, raised_to}
 use Rattle.swings.specs.Swings.{larger}
-use Rattle.swings.proofs.Scans.{scan-stops, scan-goes}
+use Rattle.swings.proofs.Scans.{scan_stops, scan_goes}
 use Rattle.swings.proofs.scan.next.Statement.{statement}
 use Rattle.swings.proofs.scan.next.Tie as tie
 
@@ -26,34 +26,34 @@ next-swing-requires c κs =
     let s = (known c).before in
     let i = s.pre.0 in
     let o = s.pre.2 in (
-      record { laid = i.laid; step_is = i.step_is; count-is = i.count-is; pixel-is = i.pixel-is },
+      record { laid = i.laid; step_is = i.step_is; count_is = i.count_is; pixel_is = i.pixel_is },
       record { shut = o.shut; start_is = o.start_is; len_is = o.len_is },
     )
 
 least-is : (c : tie.After-raised) → let a = (known c).before.args in
-    c.raised.result ≡ raisedTo a.plan.minimum_amplitude a.s.strongest
+    c.raised.result ≡ raised_to a.plan.minimum_amplitude a.s.strongest
 least-is c =
     let a = (known c).before.args in
-    c.raised.ensures ∙ ap (raisedTo a.plan.minimum_amplitude)
+    c.raised.ensures ∙ ap (raised_to a.plan.minimum_amplitude)
     (to_z-of_z w32 a.s.strongest (record { sfits = omega (arith, c.before.struct_told.given) }))
 
 -- what the callee says, of the least swing as it is defined
 answer : (c : tie.After-next-swing)
-    → let a = (known c.before).before.args in let lines = linesOn a.«data».now a.plan in
-    let least = raisedTo a.plan.minimum_amplitude a.s.strongest in
-    swingsAt least a.plan.pixel lines a.s.place ≡ remainingSwings least a.plan.pixel lines
+    → let a = (known c.before).before.args in let lines = lines_on a.«data».now a.plan in
+    let least = raised_to a.plan.minimum_amplitude a.s.strongest in
+    swings_at least a.plan.pixel lines a.s.place ≡ remaining_swings least a.plan.pixel lines
     c.next-swing.result
 answer c =
     let a = (known c.before).before.args in
-    let lines = linesOn a.«data».now a.plan in
-    subst (λ (least : ℕ). swingsAt least a.plan.pixel lines a.s.place ≡ remainingSwings least a.plan.pixel
+    let lines = lines_on a.«data».now a.plan in
+    subst (λ (least : ℕ). swings_at least a.plan.pixel lines a.s.place ≡ remaining_swings least a.plan.pixel
     lines c.next-swing.result) (least-is c.before) c.next-swing.ensures.list
 
 returns : tie.Need-returns
 returns c =
     let n = c.before.before.before in
     let k = known n.before in
-    scan-stops k.before.args.«data».now k.before.args.plan k.before.args.s n.next-swing.result
+    scan_stops k.before.args.«data».now k.before.args.plan k.before.args.s n.next-swing.result
     (answer n)
     (λ i. omega (arith, k.shared-slice-known.given i)) (not-true _ c.if1.true) _ _
 
@@ -76,7 +76,7 @@ returns-2 c =
     let t = g.before.before.before in
     let n = t.before.before.before in
     let k = known n.before in
-    scan-goes k.before.args.«data».now k.before.args.plan k.before.args.s n.next-swing.result
+    scan_goes k.before.args.«data».now k.before.args.plan k.before.args.s n.next-swing.result
     (answer n)
     (λ i. omega (arith, k.shared-slice-known.given i)) (not-false _ t.if1.false)
     (let o = n.next-swing.ensures.opened (not-false _ t.if1.false) in

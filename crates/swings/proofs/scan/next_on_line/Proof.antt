@@ -6,18 +6,18 @@ use native.Mathlib.Omega.{arith}
 use borrow.Author.Rules.{rules}
 use Rattle.swings.specs.declared.run.RunEnd.TheVariants.{At}
 use Rattle.swings.specs.Line.{sample}
-use Rattle.swings.specs.Swings.{lineSwings}
+use Rattle.swings.specs.Swings.{line_swings}
 use Rattle.swings.specs.Runs.{RunTo}
-use Rattle.swings.proofs.Line.{sample-within}
-use Rattle.swings.proofs.LineSwings.{swings-short, swings-end, swings-level, swings-found, swings-nothing}
-use Rattle.swings.proofs.LineSwings.{swings-from}
+use Rattle.swings.proofs.Line.{sample_within}
+use Rattle.swings.proofs.LineSwings.{swings_short, swings_end, swings_level, swings_found, swings_nothing}
+use Rattle.swings.proofs.LineSwings.{swings_from_lem}
 use Rattle.swings.proofs.scan.next_on_line.Statement.{statement}
 use Rattle.swings.proofs.scan.next_on_line.Tie as tie
 
 abbrev invariant-loop : tie.invariant-loop
 invariant-loop «data» start step n from pixel minimum-amplitude last a₀ a =
     let x = sample «data» start step in
-    lineSwings minimum-amplitude pixel x n from ≡ lineSwings minimum-amplitude pixel x n a
+    line_swings minimum-amplitude pixel x n from ≡ line_swings minimum-amplitude pixel x n a
 
 abbrev decreases-loop : tie.decreases-loop
 decreases-loop «data» start step n from pixel minimum-amplitude last a₀ a = last - a
@@ -32,7 +32,7 @@ turn c = let r = c.before.before.before in r.before.before
 returns : tie.Need-returns invariant-loop decreases-loop
 returns c =
     let a = c.before.before.args in
-    swings-short a.minimum-amplitude a.pixel (sample a.«data».now a.start a.step) a.n a.from
+    swings_short a.minimum-amplitude a.pixel (sample a.«data».now a.start a.step) a.n a.from
     c.if1.true
 
 sub-last : tie.Need-overflow-sub-last invariant-loop decreases-loop
@@ -56,7 +56,7 @@ returns-2 c =
     let l = r.before.before in
     let a = (entry l).args in
     l.loop.invariant
-    ∙ swings-level a.minimum-amplitude a.pixel (sample a.«data».now a.start a.step) a.n l.loop.a
+    ∙ swings_level a.minimum-amplitude a.pixel (sample a.«data».now a.start a.step) a.n l.loop.a
     l.before.if1.false (rw c.enum_told.given.1 at r.run-end.ensures)
 
 -- the run that was found
@@ -71,7 +71,7 @@ rise-of-requires c κs =
     let b = c.before.b.given.0.0 in
     let w = (ran c).within in
     let small : s.args.n ≤ 2 ^ 53 = s.pre.0 in
-    (omega arith, omega arith, sample-within s.args.start s.args.step {i = b} w.1 s.pre.1)
+    (omega arith, omega arith, sample_within s.args.start s.args.step {i = b} w.1 s.pre.1)
 
 enum-known-s : tie.Need-enum-known-s invariant-loop decreases-loop
 enum-known-s c = search rules
@@ -87,7 +87,7 @@ returns-3 c =
     let a = (entry l).args in
     rw c.scaled.ensures
     (l.loop.inv
-    ∙ swings-found a.minimum-amplitude a.pixel (sample a.«data».now a.start a.step) a.n l.loop.a
+    ∙ swings_found a.minimum-amplitude a.pixel (sample a.«data».now a.start a.step) a.n l.loop.a
     k.before.b.given.0.0 l.before.if1.left (ran k) f.s.given.0.0
     (sym f.before.before.rise-of.ensures ∙ f.s.given.1))
 
@@ -109,9 +109,9 @@ loop-again c =
     let a = (entry l).args in
     let x = sample a.«data».now a.start a.step in
     l.loop.inv
-    ∙ swings-nothing a.minimum-amplitude a.pixel x a.n l.loop.a k.before.b.given.0.0
+    ∙ swings_nothing a.minimum-amplitude a.pixel x a.n l.loop.a k.before.b.given.0.0
     l.before.if1.left (ran k) (sym e.before.before.rise-of.ensures ∙ e.enum-told2.given.1)
-    ∙ swings-from a.minimum-amplitude a.pixel x a.n k.before.b.given.0.0 c.steep-from.result
+    ∙ swings_from_lem a.minimum-amplitude a.pixel x a.n k.before.b.given.0.0 c.steep-from.result
     l.before.if1.left c.steep-from.ensures
 
 returns-4 : tie.Need-returns-4 invariant-loop decreases-loop
@@ -119,7 +119,7 @@ returns-4 c =
     let l = c.before in
     let a = (entry l).args in
     l.loop.invariant
-    ∙ swings-end a.minimum-amplitude a.pixel (sample a.«data».now a.start a.step) a.n l.loop.a
+    ∙ swings_end a.minimum-amplitude a.pixel (sample a.«data».now a.start a.step) a.n l.loop.a
     l.before.if1.false c.loop-test.false
 
 pub next-on-line-spec : {M : Type 1} → statement M

@@ -7,19 +7,19 @@ use native.Mathlib.Omega.{arith}
 use borrow.Author.Rules.{rules}
 use lib.ListN.{length}
 use Rattle.swings.specs.declared.scan.Place.{Place}
-use Rattle.swings.specs.Line.{linesOn}
-use Rattle.swings.specs.Scan.{Open, swingsAt}
-use Rattle.swings.proofs.Line.{line-below}
-use Rattle.swings.proofs.Opened.{sides, count_small, line-starts, open-within, found-open, found_here, none_here}
-use Rattle.swings.proofs.Opened.{none_left, opens, opened-on}
+use Rattle.swings.specs.Line.{lines_on}
+use Rattle.swings.specs.Scan.{Open, swings_at}
+use Rattle.swings.proofs.Line.{line_below}
+use Rattle.swings.proofs.Opened.{sides, count_small, line_starts, open_within, found_open, found_here, none_here}
+use Rattle.swings.proofs.Opened.{none_left, opens, opened_on}
 use Rattle.swings.proofs.scan.next_swing.Statement.{statement}
 use Rattle.swings.proofs.scan.next_swing.Tie as tie
 
 abbrev invariant-loop : tie.invariant-loop
 invariant-loop «data» plan from start₀ len₀ at₀ line₀ start len at line =
-    let lines = linesOn «data» plan in
+    let lines = lines_on «data» plan in
     let p : Place = record { start = start; len = len; at = at; line = line } in
-    Open plan p × (swingsAt plan.minimum_amplitude plan.pixel lines from ≡ swingsAt plan.minimum_amplitude
+    Open plan p × (swings_at plan.minimum_amplitude plan.pixel lines from ≡ swings_at plan.minimum_amplitude
     plan.pixel lines p)
 
 abbrev decreases-loop : tie.decreases-loop
@@ -44,7 +44,7 @@ next-on-line-requires : tie.Need-next-on-line-requires invariant-loop decreases-
 next-on-line-requires c κs =
     let l = c.before.before in
     let s = l.before.before in
-    open-within s.args.plan s.args.«data».now s.requires.0 (reached l) l.loop.invariant.0 c.if1.true
+    open_within s.args.plan s.args.«data».now s.requires.0 (reached l) l.loop.invariant.0 c.if1.true
 
 enum-known-on : tie.Need-enum-known-on invariant-loop decreases-loop
 enum-known-on c = search rules
@@ -58,13 +58,13 @@ returns c =
     let swing = c.before.on.given.0.0 in
     let at = c.before.on.given.0.1.0 in
     let told = rw c.before.on.given.1 at n.next-on-line.ensures in
-    let some = found-open s.args.plan s.args.«data».now s.requires.0 (reached l) l.loop.invariant.0
+    let some = found_open s.args.plan s.args.«data».now s.requires.0 (reached l) l.loop.invariant.0
     t.if1.true s.args.plan.minimum_amplitude swing at told in
     record {
       list = l.loop.invariant.1
           ∙ found_here s.args.plan s.args.«data».now s.requires.0 (reached l) l.loop.invariant.0 t.if1.true
           s.args.plan.minimum_amplitude swing at told;
-      opened = λ _. opened-on s.args.plan (reached l) at l.loop.invariant.0 some;
+      opened = λ _. opened_on s.args.plan (reached l) at l.loop.invariant.0 some;
     }
 
 enum_told : tie.Need-enum-told invariant-loop decreases-loop
@@ -75,7 +75,7 @@ line-or-none-requires c κs =
     let l = turn c in
     let s = entry l in (
       sides s.args.plan (length s.args.«data».now) s.pre.0,
-      λ h. line-below s.args.plan
+      λ h. line_below s.args.plan
           (length s.args.«data».now) l.loop.line s.pre.0 h,
     )
 
@@ -86,7 +86,7 @@ starts c =
     let l = turn c.before in
     let s = entry l in
     rw c.line-or-none.ensures
-    (line-starts s.args.plan (length s.args.«data».now) s.pre.0 l.loop.line)
+    (line_starts s.args.plan (length s.args.«data».now) s.pre.0 l.loop.line)
 
 mul-start : tie.Need-overflow-mul-start invariant-loop decreases-loop
 mul-start c = let r = c.before.before in record { fits = omega (arith, starts r, (entry (turn r.before)).good.0) }

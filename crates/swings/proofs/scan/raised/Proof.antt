@@ -6,18 +6,18 @@ use lib.IntN.{ℤ}
 use mir.Syntax.{w32}
 use mir.ValLaws.{to_z-of_z}
 use borrow.Author.Rules.{rules}
-use Rattle.numbers.specs.Scalar.{clampByte}
-use Rattle.swings.specs.Scan.{half_of, raisedTo}
+use Rattle.numbers.specs.Scalar.{clamp_byte}
+use Rattle.swings.specs.Scan.{half_of, raised_to}
 use Rattle.swings.proofs.scan.raised.Statement.{statement}
 use Rattle.swings.proofs.scan.raised.Tie as tie
 
 -- what the function answers, from what the cut gave
-module _ (least n : ℕ) (top : ℤ) (cut : n ≡ clampByte top) where
-  least-is : n - n / 2 < least → least ≡ raisedTo least top
+module _ (least n : ℕ) (top : ℤ) (cut : n ≡ clamp_byte top) where
+  least-is : n - n / 2 < least → least ≡ raised_to least top
   unfolding half_of
   least-is h = rw (← cut) (omega arith)
 
-  half_is : least ≤ n - n / 2 → n - n / 2 ≡ raisedTo least top
+  half_is : least ≤ n - n / 2 → n - n / 2 ≡ raised_to least top
   unfolding half_of
   half_is h = rw (← cut) (omega arith)
 
@@ -27,8 +27,8 @@ clamp-u8-requires c κs = search rules
 sub-half : tie.Need-overflow-sub-half
 sub-half c = search rules
 
-cut-is : (c : tie.After-clamp-u8) → c.clamp-u8.result ≡ clampByte c.before.args.strongest
-cut-is c = c.clamp-u8.ensures ∙ ap clampByte (to_z-of_z w32 c.before.args.strongest c.before.ranges.strongest)
+cut-is : (c : tie.After-clamp-u8) → c.clamp-u8.result ≡ clamp_byte c.before.args.strongest
+cut-is c = c.clamp-u8.ensures ∙ ap clamp_byte (to_z-of_z w32 c.before.args.strongest c.before.ranges.strongest)
 
 returns : tie.Need-returns
 returns c = least-is _ c.before.clamp-u8.result _ (cut-is c.before) c.if1.true

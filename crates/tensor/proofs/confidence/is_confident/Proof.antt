@@ -2,20 +2,20 @@
 use borrow.Author.Rules.{rules}
 use mathlib.Core.Path.{◌≡◌, sym, ◌∙◌}
 use mir.Facts.{to_z-of_z}
-use Rattle.tensor.specs.Tensor.{noDirection}
-use Rattle.tensor.proofs.Floor.{passes_none, passes_over, passes-reach}
-use Rattle.tensor.proofs.TensorDirection.{none-asked, none-held}
+use Rattle.tensor.specs.Tensor.{no_direction}
+use Rattle.tensor.proofs.Floor.{passes_none, passes_over, passes_reach}
+use Rattle.tensor.proofs.TensorDirection.{none_asked, none_held}
 use Rattle.tensor.proofs.confidence.is_confident.Statement.{statement}
 use Rattle.tensor.proofs.confidence.is_confident.Tie as tie
 
 no-direction-requires : tie.Need-no-direction-requires
-no-direction-requires c κs = none-asked c.ranges.a c.ranges.e c.requires
+no-direction-requires c κs = none_asked c.ranges.a c.ranges.e c.requires
 
 none_is : (c : tie.After-no-direction) → let a = c.before.args in
-    c.no-direction.result ≡ noDirection a.width a.height a.a a.e
+    c.no-direction.result ≡ no_direction a.width a.height a.a a.e
 none_is c =
     let s = c.before in
-    c.no-direction.ensures ∙ none-held s.ranges.a s.ranges.e s.args.width s.args.height
+    c.no-direction.ensures ∙ none_held s.ranges.a s.ranges.e s.args.width s.args.height
 
 returns : tie.Need-returns
 returns c =
@@ -40,7 +40,7 @@ returns-3 c =
     let a = s.args in
     rw (to_z-of_z s.ranges.a, to_z-of_z s.ranges.c, to_z-of_z s.ranges.e) at c.reaches.ensures
     ∙ sym
-    (passes-reach a.floor a.a a.c a.e a.width a.height
+    (passes_reach a.floor a.a a.c a.e a.width a.height
     (sym (none_is k) ∙ c.before.before.if1.false) c.before.if2.false)
 
 pub is-confident-spec : {M : Type 1} → statement M

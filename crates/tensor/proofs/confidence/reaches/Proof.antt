@@ -5,8 +5,8 @@ use native.Mathlib.Omega.{arith}
 use lib.IntN.{nat_abs, ◌+ℤ◌, ◌-ℤ◌}
 use mir.Syntax.{w64}
 use mir.Facts.{to_z-of_z}
-use Rattle.numbers.proofs.Int.Machine.{add-fits, add-held, sub-fits, sub_held}
-use Rattle.tensor.proofs.Floor.{at-least-squares, ScaledSmall, scaled_small}
+use Rattle.numbers.proofs.Int.Machine.{add_fits, add_held, sub_fits, sub_held}
+use Rattle.tensor.proofs.Floor.{at_least_squares, ScaledSmall, scaled_small}
 use Rattle.tensor.proofs.TensorDirection.{pair_small}
 use Rattle.tensor.proofs.confidence.reaches.Statement.{statement}
 use Rattle.tensor.proofs.confidence.reaches.Tie as tie
@@ -21,7 +21,7 @@ bounds : (s : tie.Start) → ScaledSmall s.args.floor s.args.a s.args.c s.args.e
 bounds s = scaled_small s.args.floor s.args.a s.args.c s.args.e s.requires.1 s.requires.0
 
 sub-abs-i64 : tie.Need-overflow-sub-abs-i64
-sub-abs-i64 c = sub-fits w64 (to_z-of_z c.ranges.a) (to_z-of_z c.ranges.e) (pair_small c.requires.1)
+sub-abs-i64 c = sub_fits w64 (to_z-of_z c.ranges.a) (to_z-of_z c.ranges.e) (pair_small c.requires.1)
 
 abs-i64-requires : tie.Need-abs-i64-requires
 abs-i64-requires c κs = search rules
@@ -35,7 +35,7 @@ size-d c =
 mul-squares-reach : tie.Need-overflow-mul-squares-reach
 mul-squares-reach c =
     let s = c.before in
-    rw (size-d c) (record { fits = omega (arith, (bounds s).x-most) })
+    rw (size-d c) (record { fits = omega (arith, (bounds s).x_most) })
 
 abs-i64-requires-2 : tie.Need-abs-i64-requires-2
 abs-i64-requires-2 c κs = search rules
@@ -44,17 +44,17 @@ size-c : (c : tie.After-abs-i642) → c.abs-i642.result ≡ nat_abs c.before.bef
 size-c c = c.abs-i642.ensures ∙ ap nat_abs (to_z-of_z c.before.before.ranges.c)
 
 mul-squares-reach-2 : tie.Need-overflow-mul-squares-reach-2
-mul-squares-reach-2 c = omega (arith, size-c c, c.before.before.requires.1.small-c)
+mul-squares-reach-2 c = omega (arith, size-c c, c.before.before.requires.1.small_c)
 
 mul-squares-reach-3 : tie.Need-overflow-mul-squares-reach-3
 mul-squares-reach-3 c =
     let s = c.before.before in
-    rw (size-c c) (record { fits = omega (arith, (bounds s).y-most) })
+    rw (size-c c) (record { fits = omega (arith, (bounds s).y_most) })
 
 add-abs-i64 : tie.Need-overflow-add-abs-i64
 add-abs-i64 c =
     let s = c.before.before in
-    add-fits w64 (to_z-of_z s.ranges.a) (to_z-of_z s.ranges.e) (pair_small s.requires.1)
+    add_fits w64 (to_z-of_z s.ranges.a) (to_z-of_z s.ranges.e) (pair_small s.requires.1)
 
 abs-i64-requires-3 : tie.Need-abs-i64-requires-3
 abs-i64-requires-3 c κs = search rules
@@ -64,24 +64,24 @@ size-t : (c : tie.After-abs-i643) → let a = c.before.before.before.args in
 size-t c =
     let s = c.before.before.before in
     c.abs-i643.ensures
-    ∙ ap nat_abs (add-held w64 (to_z-of_z s.ranges.a) (to_z-of_z s.ranges.e) (pair_small s.requires.1))
+    ∙ ap nat_abs (add_held w64 (to_z-of_z s.ranges.a) (to_z-of_z s.ranges.e) (pair_small s.requires.1))
 
 mul-squares-reach-4 : tie.Need-overflow-mul-squares-reach-4
 mul-squares-reach-4 c =
     let s = c.before.before.before in
-    rw (size-t c) (record { fits = omega (arith, (bounds s).z-most) })
+    rw (size-t c) (record { fits = omega (arith, (bounds s).z_most) })
 
 squares-reach-requires : tie.Need-squares-reach-requires
 squares-reach-requires c κs =
     let s = c.before.before.before in
-    rw (size-c c.before, size-t c) (omega (arith, (bounds s).y-most, (bounds s).z-most))
+    rw (size-c c.before, size-t c) (omega (arith, (bounds s).y_most, (bounds s).z_most))
 
 returns : tie.Need-returns
 returns c =
     let t = c.before in
     let a = t.before.before.before.args in
     rw (size-d t.before.before, size-c t.before, size-t t) at c.squares-reach.ensures
-    ∙ at-least-squares a.floor a.a a.c a.e
+    ∙ at_least_squares a.floor a.a a.c a.e
 
 pub reaches-spec : {M : Type 1} → statement M
 reaches-spec =

@@ -4,12 +4,12 @@ use mathlib.Core.Path.{sym, ap₂, ◌∙◌}
 use Prim.Native.Nat.{◌+◌, ◌-◌, ◌*◌}
 use lib.Dec.{leb}
 use Rattle.numbers.proofs.Words.{whole_words}
-use Rattle.tensor.proofs.Floor.{reach-at-once, reach-by-products}
+use Rattle.tensor.proofs.Floor.{reach_at_once, reach_by_products}
 use Rattle.tensor.proofs.confidence.squares_reach.Statement.{statement}
 use Rattle.tensor.proofs.confidence.squares_reach.Tie as tie
 
 returns : tie.Need-returns
-returns c = let a = c.before.args in sym (reach-at-once a.x a.y a.z c.if1.true)
+returns c = let a = c.before.args in sym (reach_at_once a.x a.y a.z c.if1.true)
 
 wide-product-requires : tie.Need-wide-product-requires
 wide-product-requires c κs = search rules
@@ -33,7 +33,7 @@ returns-2 c =
     let a = first.before.before.args in
     rw (first.wide-product.ensures, second.wide-product2.ensures) at c.at-least.ensures
     ∙ ap₂ leb (whole_words ((a.z - a.y) * (a.z + a.y))) (whole_words (a.x * a.x))
-    ∙ reach-by-products a.x a.y a.z first.before.if1.false
+    ∙ reach_by_products a.x a.y a.z first.before.if1.false
 
 pub squares-reach-spec : {M : Type 1} → statement M
 squares-reach-spec =

@@ -12,8 +12,8 @@ use Rattle.image.proofs.Refusal.{laid}
 use Rattle.tensor.specs.Confidence.{passes}
 use Rattle.tensor.specs.declared.direction.TensorSums.{TensorSums}
 use Rattle.tensor.specs.declared.direction.DirectionAnswer.TheVariants.{Direction, Refused}
-use Rattle.tensor.specs.Tensor.{pictureSums, directionAnswer}
-use Rattle.tensor.proofs.Answer.{confident-refused, confident-17, confident-accepted, confident-is, estimate-is}
+use Rattle.tensor.specs.Tensor.{picture_sums, direction_answer}
+use Rattle.tensor.proofs.Answer.{confident_refused, confident_17, confident_accepted, confident_is, estimate_is}
 use Rattle.tensor.proofs.direction.estimate_confident_direction.Statement.{statement}
 use Rattle.tensor.proofs.direction.estimate_confident_direction.Tie as tie
 
@@ -24,7 +24,7 @@ returns : tie.Need-returns
 returns c =
     let r = c.before.layout-refusal in
     ap Refused r.ensures
-    ∙ sym (ap directionAnswer (confident-refused _ _ _ _ _ (λ z. c.if1.true (r.ensures ∙ z))))
+    ∙ sym (ap direction_answer (confident_refused _ _ _ _ _ (λ z. c.if1.true (r.ensures ∙ z))))
 
 tensor-sums-requires : tie.Need-tensor-sums-requires
 tensor-sums-requires c κs = laid (sym c.before.layout-refusal.ensures ∙ c.if1.false)
@@ -53,10 +53,10 @@ module _ (c : tie.After-is-confident) where
   held-e = to_z-of_z (record { sfits = omega (arith, c.before.struct-told3.given) })
 
   told : let a = start.args in
-      let t = pictureSums (gray8 a.«data».now a.width a.height a.stride) in
+      let t = picture_sums (gray8 a.«data».now a.width a.height a.stride) in
       c.is-confident.result ≡ passes a.floor a.width a.height t.a t.c t.e
   told =
-      confident-is start.args.width start.args.height measured.tensor-sums.ensures.0 held-a held-c held-e
+      confident_is start.args.width start.args.height measured.tensor-sums.ensures.0 held-a held-c held-e
       start.args.floor c.is-confident.ensures
 
 returns-2 : tie.Need-returns-2
@@ -64,8 +64,8 @@ returns-2 c =
     let k = c.before in
     let g = (measured k).before in
     sym
-    (ap directionAnswer
-    (confident-17 _ _ _ _ _ (sym g.before.layout-refusal.ensures ∙ g.if1.left)
+    (ap direction_answer
+    (confident_17 _ _ _ _ _ (sym g.before.layout-refusal.ensures ∙ g.if1.left)
     (sym (told k) ∙ not-true k.is-confident.result c.if2.true)))
 
 tensor-direction-requires : tie.Need-tensor-direction-requires
@@ -77,11 +77,11 @@ returns-3 c =
     let k = e.before in
     let g = (measured k).before in
     ap Direction
-    (estimate-is (start k).args.width (start k).args.height (measured k).tensor-sums.ensures.0 (held-a k)
+    (estimate_is (start k).args.width (start k).args.height (measured k).tensor-sums.ensures.0 (held-a k)
     (held-c k) (held-e k) c.before.tensor-direction.ensures)
     ∙ sym
-    (ap directionAnswer
-    (confident-accepted _ _ _ _ _ (sym g.before.layout-refusal.ensures ∙ g.if1.left)
+    (ap direction_answer
+    (confident_accepted _ _ _ _ _ (sym g.before.layout-refusal.ensures ∙ g.if1.left)
     (sym (told k) ∙ not-false k.is-confident.result e.if2.false)))
 
 pub estimate-confident-direction-spec : {M : Type 1} → statement M

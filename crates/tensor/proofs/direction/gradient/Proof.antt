@@ -7,8 +7,8 @@ use lib.IntN.{ℤ, pos, nat_abs, ◌-ℤ◌}
 use mir.Syntax.{w16}
 use mir.Val.{SFits, to_z, of_z}
 use mir.Facts.{to_z-of_z}
-use Rattle.numbers.proofs.Int.Machine.{fits-as, held}
-use Rattle.numbers.proofs.Int.Size.{natAbs-sub-pos, sfits-size}
+use Rattle.numbers.proofs.Int.Machine.{fits_as, held}
+use Rattle.numbers.proofs.Int.Size.{nat_abs_sub_pos, sfits_size}
 use Rattle.tensor.specs.Tensor.{smooth}
 use Rattle.tensor.proofs.direction.gradient.Statement.{statement}
 use Rattle.tensor.proofs.direction.gradient.Tie as tie
@@ -34,13 +34,13 @@ module _ (c : tie.After-weighted2) where
       let a = c.before.before.args in
       let h : smooth a.u2 a.v2 a.w2 ≤ 1020 = omega arith in
       let k : smooth a.u a.v a.w ≤ 1020 = omega arith in
-      natAbs-sub-pos h k
+      nat_abs_sub_pos h k
 
   fits : SFits w16 value
-  fits = sfits-size (omega (arith, small))
+  fits = sfits_size (omega (arith, small))
 
 sub-result : tie.Need-overflow-sub-result
-sub-result c = fits-as (is c) (fits c)
+sub-result c = fits_as (is c) (fits c)
 
 returns : tie.Need-returns
 returns c =

@@ -1,7 +1,7 @@
 -- `tensor::gradient_x` meets its contract: its pixels are the definition's. Assumes nothing.
 use borrow.Author.Rules.{rules}
-use Rattle.tensor.specs.Tensor.{gradientX}
-use Rattle.tensor.proofs.Gradient.{gradient-held}
+use Rattle.tensor.specs.Tensor.{gradient_x}
+use Rattle.tensor.proofs.Gradient.{gradient_held}
 use Rattle.tensor.proofs.direction.gradient_x.Statement.{statement}
 use Rattle.tensor.proofs.direction.gradient_x.Tie as tie
 
@@ -30,8 +30,8 @@ gradient-requires : tie.Need-gradient-requires
 gradient-requires c κs = search rules
 
 returns : tie.Need-returns
-unfolding gradientX
-returns c = gradient-held (record { sfits = c.gradient.type-inv }) c.gradient.ensures
+unfolding gradient_x
+returns c = gradient_held (record { sfits = c.gradient.type-inv }) c.gradient.ensures
 
 pub gradient-x-spec : {M : Type 1} → statement M
 gradient-x-spec =

@@ -1,8 +1,8 @@
 -- `tensor::gradient_y` meets its contract: its pixels are the definition's, by the place of the middle column. Assumes
 -- nothing.
 use borrow.Author.Rules.{rules}
-use Rattle.tensor.specs.Tensor.{gradientY}
-use Rattle.tensor.proofs.Gradient.{gradient-held, mid_at}
+use Rattle.tensor.specs.Tensor.{gradient_y}
+use Rattle.tensor.proofs.Gradient.{gradient_held, mid_at}
 use Rattle.tensor.proofs.direction.gradient_y.Statement.{statement}
 use Rattle.tensor.proofs.direction.gradient_y.Tie as tie
 
@@ -49,10 +49,10 @@ gradient-requires : tie.Need-gradient-requires
 gradient-requires c κs = search rules
 
 returns : tie.Need-returns
-unfolding gradientY
+unfolding gradient_y
 returns c =
     let start = c.before.before.before.before.before.before.before.before.before.before.before in
-    gradient-held (record { sfits = c.gradient.type-inv })
+    gradient_held (record { sfits = c.gradient.type-inv })
     (rw (
       mid_at start.args.above.now start.args.x start.requires.0,
       mid_at start.args.below.now

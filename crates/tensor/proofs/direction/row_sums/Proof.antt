@@ -8,17 +8,17 @@ use lib.IntN.{ℤ, ◌*ℤ◌}
 use lib.ListN.{length}
 use mir.Syntax.{w16, w32}
 use mir.Val.{to_z, of_z}
-use Rattle.tensor.specs.Tensor.{gradientX, gradientY, Gradient, threeRows, rowSum, rowSums}
-use Rattle.tensor.proofs.Gradient.{Sofar, sofar-none, gradient-held, sofar-all, product-fits, product-next}
+use Rattle.tensor.specs.Tensor.{gradient_x, gradient_y, Gradient, three_rows, row_sum, row_sums}
+use Rattle.tensor.proofs.Gradient.{Sofar, sofar_none, gradient_held, sofar_all, product_fits, product_next}
 use Rattle.tensor.proofs.direction.row_sums.Statement.{statement}
 use Rattle.tensor.proofs.direction.row_sums.Tie as tie
 
 -- the gradients in column x + 1 of the row between
 abbrev gx : List ℕ → List ℕ → List ℕ → ℕ → ℤ
-gx above here below x = gradientX (threeRows above here below) x 0
+gx above here below x = gradient_x (three_rows above here below) x 0
 
 abbrev gy : List ℕ → List ℕ → List ℕ → ℕ → ℤ
-gy above here below x = gradientY (threeRows above here below) x 0
+gy above here below x = gradient_y (three_rows above here below) x 0
 
 abbrev invariant-loop : tie.invariant-loop
 invariant-loop above here below n a₀ c₀ e₀ x₀ a c e x =
@@ -31,7 +31,7 @@ abbrev decreases-loop : tie.decreases-loop
 decreases-loop above here below n a₀ c₀ e₀ x₀ a c e x = n - x
 
 loop-holds : tie.Need-loop-init invariant-loop decreases-loop
-loop-holds c = (omega arith, sofar-none _ _, sofar-none _ _, sofar-none _ _)
+loop-holds c = (omega arith, sofar_none _ _, sofar_none _ _, sofar_none _ _)
 
 add-loop : tie.Need-overflow-add-loop invariant-loop decreases-loop
 add-loop c = omega arith
@@ -47,26 +47,26 @@ module _ (c : tie.After-gradient-y invariant-loop decreases-loop) where
   grad-x : let at = c.before.before.before in let args = at.before.before.before.before.args in Gradient
       (gx args.above.now args.here.now args.below.now at.loop.x)
       (to_z w16 (of_z w16 c.before.gradient-x.result))
-  grad-x = gradient-held (record { sfits = c.before.gradient-x.type-inv }) c.before.gradient-x.ensures
+  grad-x = gradient_held (record { sfits = c.before.gradient-x.type-inv }) c.before.gradient-x.ensures
 
   grad-y : let at = c.before.before.before in let args = at.before.before.before.before.args in Gradient
       (gy args.above.now args.here.now args.below.now at.loop.x)
       (to_z w16 (of_z w16 c.gradient-y.result))
-  unfolding gradientY
-  grad-y = gradient-held (record { sfits = c.gradient-y.type-inv }) c.gradient-y.ensures
+  unfolding gradient_y
+  grad-y = gradient_held (record { sfits = c.gradient-y.type-inv }) c.gradient-y.ensures
 
 add-product-requires : tie.Need-add-product-requires invariant-loop decreases-loop
-add-product-requires c κs = product-fits c.before.before.before.loop.invariant.1 (grad-x c) (grad-x c) (omega arith)
+add-product-requires c κs = product_fits c.before.before.before.loop.invariant.1 (grad-x c) (grad-x c) (omega arith)
 
 add-product-requires-2 : tie.Need-add-product-requires-2 invariant-loop decreases-loop
 add-product-requires-2 c κs =
     let turn = c.before.before.before.before in
-    product-fits turn.loop.invariant.2 (grad-x c.before) (grad-y c.before) (omega arith)
+    product_fits turn.loop.invariant.2 (grad-x c.before) (grad-y c.before) (omega arith)
 
 add-product-requires-3 : tie.Need-add-product-requires-3 invariant-loop decreases-loop
 add-product-requires-3 c κs =
     let turn = c.before.before.before.before.before in
-    product-fits turn.loop.invariant.3 (grad-y c.before.before) (grad-y c.before.before) (omega arith)
+    product_fits turn.loop.invariant.3 (grad-y c.before.before) (grad-y c.before.before) (omega arith)
 
 add-x : tie.Need-overflow-add-x invariant-loop decreases-loop
 add-x c = omega arith
@@ -79,24 +79,24 @@ loop-again c =
     let k = c.before.before.before in
     let inv = k.before.before.before.loop.invariant in (
       omega arith,
-      product-next inv.1 (grad-x k) (grad-x k) refl (record { sfits = c.before.before.add-product.type-inv })
+      product_next inv.1 (grad-x k) (grad-x k) refl (record { sfits = c.before.before.add-product.type-inv })
           c.before.before.add-product.ensures,
-      product-next inv.2 (grad-x k) (grad-y k) refl (record { sfits = c.before.add-product2.type-inv })
+      product_next inv.2 (grad-x k) (grad-y k) refl (record { sfits = c.before.add-product2.type-inv })
           c.before.add-product2.ensures,
-      product-next inv.3 (grad-y k) (grad-y k) refl (record { sfits = c.add-product3.type-inv })
+      product_next inv.3 (grad-y k) (grad-y k) refl (record { sfits = c.add-product3.type-inv })
           c.add-product3.ensures,
     )
 
 returns : tie.Need-returns invariant-loop decreases-loop
-unfolding rowSums rowSum
+unfolding row_sums row_sum
 returns c =
     let start = c.before.before.before.before.before in
     let k = c.before.loop in
     let n = length start.args.here.now in
     let e : k.x ≡ n - 2 = omega arith in
-    let ea = sofar-all k.invariant.1 e in
-    let ec = sofar-all k.invariant.2 e in
-    let ee = sofar-all k.invariant.3 e in
+    let ea = sofar_all k.invariant.1 e in
+    let ec = sofar_all k.invariant.2 e in
+    let ee = sofar_all k.invariant.3 e in
     cc
 
 pub row-sums-spec : {M : Type 1} → statement M

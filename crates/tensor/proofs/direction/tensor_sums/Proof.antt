@@ -7,25 +7,25 @@ use native.Mathlib.Omega.{arith}
 use mir.Syntax.{w64}
 use mir.Val.{to_z}
 use Rattle.image.specs.Picture.{pixel}
-use Rattle.tensor.specs.Tensor.{gradientX, gradientY, rowSum, rowSums, interiorSum, tensorSums}
+use Rattle.tensor.specs.Tensor.{gradient_x, gradient_y, row_sum, row_sums, interior_sum, tensor_sums}
 use Rattle.tensor.specs.declared.direction.RowSums.{RowSums}
-use Rattle.tensor.proofs.Gradient.{Sofar, sofar-none, sofar-all, row_next}
-use Rattle.tensor.proofs.Same.{taken-rows, taken-sums}
+use Rattle.tensor.proofs.Gradient.{Sofar, sofar_none, sofar_all, row_next}
+use Rattle.tensor.proofs.Same.{taken_rows, taken_sums}
 use Rattle.tensor.proofs.direction.tensor_sums.Statement.{statement}
 use Rattle.tensor.proofs.direction.tensor_sums.Tie as tie
 
 abbrev invariant-loop : tie.invariant-loop
 invariant-loop «data» width height stride a₀ c₀ e₀ y₀ a c e y =
     (y ≤ height - 2)
-    × Sofar (rowSum (gradientX (pixel «data» stride)) (gradientX (pixel «data» stride)) width) 2147483648 y (to_z w64 a)
-    × Sofar (rowSum (gradientX (pixel «data» stride)) (gradientY (pixel «data» stride)) width) 2147483648 y (to_z w64 c)
-    × Sofar (rowSum (gradientY (pixel «data» stride)) (gradientY (pixel «data» stride)) width) 2147483648 y (to_z w64 e)
+    × Sofar (row_sum (gradient_x (pixel «data» stride)) (gradient_x (pixel «data» stride)) width) 2147483648 y (to_z w64 a)
+    × Sofar (row_sum (gradient_x (pixel «data» stride)) (gradient_y (pixel «data» stride)) width) 2147483648 y (to_z w64 c)
+    × Sofar (row_sum (gradient_y (pixel «data» stride)) (gradient_y (pixel «data» stride)) width) 2147483648 y (to_z w64 e)
 
 abbrev decreases-loop : tie.decreases-loop
 decreases-loop «data» width height stride a₀ c₀ e₀ y₀ a c e y = height - y
 
 loop-holds : tie.Need-loop-init invariant-loop decreases-loop
-loop-holds c = (omega arith, sofar-none _ _, sofar-none _ _, sofar-none _ _)
+loop-holds c = (omega arith, sofar_none _ _, sofar_none _ _, sofar_none _ _)
 
 add-loop : tie.Need-overflow-add-loop invariant-loop decreases-loop
 add-loop c = omega arith
@@ -49,23 +49,23 @@ row-sums-requires : tie.Need-row-sums-requires invariant-loop decreases-loop
 row-sums-requires c κs =
     let at = c.before.before.before.before in
     rw (c.before.before.row_of.ensures, c.before.row-of2.ensures, c.row-of3.ensures)
-    (taken-rows at.before.before.args.«data».now at.before.before.requires at.loop.y (omega arith))
+    (taken_rows at.before.before.args.«data».now at.before.before.requires at.loop.y (omega arith))
 
 -- The row's sums are the picture's.
 module _ (c : tie.After-row-sums invariant-loop decreases-loop) where
   row_is :
       let at = c.before.before.before.before.before in
       let args = at.before.before.args in
-      c.row-sums.result ≡ rowSums (pixel args.«data».now args.stride) args.width at.loop.y
+      c.row_sums_lem.result ≡ row_sums (pixel args.«data».now args.stride) args.width at.loop.y
   row_is =
       let at = c.before.before.before.before.before in
-      c.row-sums.ensures
+      c.row_sums_lem.ensures
       ∙ rw (
         c.before.before.before.row_of.ensures,
         c.before.before.row-of2.ensures,
         c.before.row-of3.ensures,
       )
-      (taken-sums at.before.before.args.«data».now at.before.before.requires at.loop.y (omega arith))
+      (taken_sums at.before.before.args.«data».now at.before.before.requires at.loop.y (omega arith))
 
 add-row-requires : tie.Need-add-row-requires invariant-loop decreases-loop
 add-row-requires c κs =
@@ -89,7 +89,7 @@ loop-less : tie.Need-loop-smaller invariant-loop decreases-loop
 loop-less c = omega arith
 
 loop-again : tie.Need-loop-preserved invariant-loop decreases-loop
-unfolding rowSums
+unfolding row_sums
 loop-again c =
     let at-add-row = c.before.before.before.before in
     let at-struct-told = at-add-row.before in
@@ -108,19 +108,19 @@ loop-again c =
     )
 
 returns : tie.Need-returns invariant-loop decreases-loop
-unfolding tensorSums interiorSum
+unfolding tensor_sums interior_sum
 returns c =
     let k = c.before.loop in
     let h = c.before.before.before.args.height in
     let e : k.y ≡ h - 2 = omega arith in
-    let ea = sofar-all k.invariant.1 e in
-    let ec = sofar-all k.invariant.2 e in
-    let ee = sofar-all k.invariant.3 e in (
+    let ea = sofar_all k.invariant.1 e in
+    let ec = sofar_all k.invariant.2 e in
+    let ee = sofar_all k.invariant.3 e in (
       cc,
       record {
-        small-a = omega (arith, k.invariant.1.small);
-        small-c = omega (arith, k.invariant.2.small);
-        small-e =
+        small_a = omega (arith, k.invariant.1.small);
+        small_c = omega (arith, k.invariant.2.small);
+        small_e =
             omega (arith, k.invariant.3.small);
       },
     )

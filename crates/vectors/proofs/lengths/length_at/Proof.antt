@@ -14,19 +14,19 @@ use types.Run.{assigns, from, stop}
 use denote.Builtin.{u8}
 use denote.Struct.Laws as LL
 use Rattle.walks.proofs.Data.{double}
-use Rattle.walks.proofs.LocalArray.{filled, filled-length, filled_row, row_room, array_typed}
+use Rattle.walks.proofs.LocalArray.{filled, filled_length, filled_row, row_room, array_typed}
 use Rattle.walks.proofs.Passing.{starts, passes, finishes}
 use Rattle.walks.proofs.Script.{some, full_share, named, w64, vint, id⊢, GName, fact_i, ◌$◌, !, move, fsplit, fjoin}
-use Rattle.walks.proofs.Script.{RefT, slice_val, Room, nothing, cited, Argument, made, had, uint, lends, loan-ends, sets}
-use Rattle.walks.proofs.Script.{sends-away, brings-back, shared, execs, ◌▸◌, Shows, meets}
+use Rattle.walks.proofs.Script.{RefT, slice_val, Room, nothing, cited, Argument, made, had, uint, lends, loan_ends, sets}
+use Rattle.walks.proofs.Script.{sends_away, brings_back, shared, execs, ◌▸◌, Shows, meets}
 use Rattle.walks.proofs.Straight.{reads}
 use Rattle.image.specs.Call.{gray8}
-use Rattle.raster.specs.Direction.{fromAngle}
+use Rattle.raster.specs.Direction.{from_angle}
 use Rattle.swings.specs.declared.Swing.{Swing}
 use Rattle.swings.proofs.PlainData.{swing}
 use Rattle.swings.specs.contracts.Swing as S
 use Rattle.swings.proofs.Swing.TheLaws as S'
-use Rattle.blur.specs.Length.{snappedDecision, lengthAnswer, SnappedMeasured}
+use Rattle.blur.specs.Length.{snapped_decision, length_answer, SnappedMeasured}
 use Rattle.blur.proofs.Parameters as P
 use Rattle.blur.proofs.PlainData as D
 use Rattle.blur.specs.contracts.length.estimate_line_length_with as estimate
@@ -43,7 +43,7 @@ parameters = had (shared 0 tt u8) ∷ made (uint w64) ∷ made (uint w64) ∷ ma
 
 abbrev Answers : Shows parameters D.answer
 Answers κs a r ws = let config = a.1.1.1.1.1.0 in
-    r ≡ lengthAnswer (snappedDecision (gray8 a.0.now a.1.0 a.1.1.0 a.1.1.1.0) (fromAngle a.1.1.1.1.0) config.minimum_transitions config.minimum_amplitude 256)
+    r ≡ length_answer (snapped_decision (gray8 a.0.now a.1.0 a.1.1.0 a.1.1.1.0) (from_angle a.1.1.1.1.0) config.minimum_transitions config.minimum_amplitude 256)
 
 -- the size of the local array
 abbrev size : ℕ
@@ -69,29 +69,29 @@ length-at-spec 𝓤 𝓛 𝓜 𝓡 =
     starts 𝓛 1 parameters D.answer κs qs a $
     assigns ! (rep ! size (reads ! 𝓛 _ _ _ 0 refl (copy (place 7 [])) _ refl)) (from ! (stop !)) (sets ! 8 _ tt tt
     (array_typed 𝓛 S.the_row (LL.lawful S.the_type S'.the_laws 𝓛) size none _ is_none)) $
-    execs ! $ sends-away ! $ move ! (1 ∷ []) $ fsplit ! $
+    execs ! $ sends_away ! $ move ! (1 ∷ []) $ fsplit ! $
     filled_row ! S.the_row tt (LL.copy S.the_type S'.the_copy 𝓛) (LL.makes S.the_type S'.the_plain 𝓛) size
     none (swing.val none) (bs 8) is_none $
     lends ! tt S.the_row (named 1) (filled size none) (bs 8) 0
-    (subst (Room S.the_row) (sym (filled-length size none)) (lit< tt, lit< tt)) (λ α δ.
+    (subst (Room S.the_row) (sym (filled_length size none)) (lit< tt, lit< tt)) (λ α δ.
     -- [the records; their token; their loan; true; locals; token 0; source]
     move ! (4 ∷ 5 ∷ 1 ∷ 6 ∷ 0 ∷ []) $
-    passes 𝓛 2 P.with-config D.answer (κs.0 ▸ α ∷ [] ▸ tt) (qs.0 ▸ full_share ▸ tt)
+    passes 𝓛 2 P.with_config D.answer (κs.0 ▸ α ∷ [] ▸ tt) (qs.0 ▸ full_share ▸ tt)
     (a.0 ▸ a.1.0 ▸ a.1.1.0 ▸ a.1.1.1.0 ▸ theta ▸ config ▸ lent_at δ none (bs 8) ▸ tt) 𝓣 _
     (estimate.clauses 𝓛 𝓜.mem 𝓡.run) tt
     (cited 𝓤 𝓛.H _ 𝓜 𝓡 code.env estimate-def.name estimate-def.routine code.calls-blur::length::estimate-line-length-with
     (estimate-thm.met 𝓤 𝓛 𝓜 𝓡))
     (are.1.0 ▸ are.1.1.0 ▸ are.1.1.1.0 ▸ are.1.1.1.1.0 ▸ are.1.1.1.1.1.0 ▸ tt) (id⊢ 𝓤 _)
     (ap (λ (k : ℕ). some (slice_val a.0.ref_ptr (length a.0.now) ∷ vint w64 a.1.0 ∷ vint w64 a.1.1.0 ∷ vint
-    w64 a.1.1.1.0 ∷ vfloat binary64 theta ∷ (D.config).val config ∷ slice_val (bs 8, 0) k ∷ [])) (sym (filled-length
+    w64 a.1.1.1.0 ∷ vfloat binary64 theta ∷ (D.config).val config ∷ slice_val (bs 8, 0) k ∷ [])) (sym (filled_length
     size none))) tt refl
-    (λ r ws. SnappedMeasured src (fromAngle theta) config.minimum_transitions config.minimum_amplitude (filled
+    (λ r ws. SnappedMeasured src (from_angle theta) config.minimum_transitions config.minimum_amplitude (filled
     size none) ws.1.1.1.1.1.1.0 r) (λ r ws. id⊢ 𝓤 _) (λ r ws m is.
     let ys = ws.1.1.1.1.1.1.0 in
     -- [locals; token 0; the records' token; the last records; their loan; true]
-    move ! (2 ∷ 4 ∷ 3 ∷ []) $ loan-ends ! tt S.the_row ys (length (filled size none)) (bs 8) 0 α δ (λ same.
-    row_room ! S.the_row size (bs 8) ys (same ∙ filled-length size none) $ nothing ! $ move ! (1 ∷ 0 ∷ []) $ fjoin ! $
-    move ! (1 ∷ 0 ∷ []) $ brings-back ! $
+    move ! (2 ∷ 4 ∷ 3 ∷ []) $ loan_ends ! tt S.the_row ys (length (filled size none)) (bs 8) 0 α δ (λ same.
+    row_room ! S.the_row size (bs 8) ys (same ∙ filled_length size none) $ nothing ! $ move ! (1 ∷ 0 ∷ []) $ fjoin ! $
+    move ! (1 ∷ 0 ∷ []) $ brings_back ! $
     finishes 𝓛 1 parameters D.answer κs qs a _ Answers Kf refl ends r (tt ▸ tt ▸ tt ▸ tt ▸ tt ▸ tt ▸ tt ▸ tt) is
-    (m.answered ∙ ap (λ (k : ℕ). lengthAnswer (snappedDecision src (fromAngle theta) config.minimum_transitions
-    config.minimum_amplitude k)) (filled-length size none)) refl))))
+    (m.answered ∙ ap (λ (k : ℕ). length_answer (snapped_decision src (from_angle theta) config.minimum_transitions
+    config.minimum_amplitude k)) (filled_length size none)) refl))))

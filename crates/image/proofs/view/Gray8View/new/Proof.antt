@@ -12,7 +12,7 @@ use denote.Struct.Laws as LL
 use denote.Triple.Clauses.{lasts}
 use Rattle.walks.proofs.Compute.{computes}
 use Rattle.walks.proofs.Forward.{Kind}
-use Rattle.walks.proofs.Parameters.{shared, put-together}
+use Rattle.walks.proofs.Parameters.{shared, put_together}
 use Rattle.image.specs.View.{view_of}
 use Rattle.image.proofs.ViewParameters.{number}
 use Rattle.image.specs.contracts.view.Gray8View as T
@@ -35,7 +35,7 @@ new_spec 𝓤 𝓛 𝓜 𝓡 =
       ws = (tt, (tt, (tt, (tt, tt))));
       made = λ are.
           let P : Fml = lasts self.ended κs a (tt, (tt, (tt, (tt, tt)))) in
-          put-together 𝓛 (T.the_type (named_lft 1 0 tt κs)) (T'.the_laws (named_lft 1 0 tt
+          put_together 𝓛 (T.the_type (named_lft 1 0 tt κs)) (T'.the_laws (named_lft 1 0 tt
           κs)) a P
           (makes_shadow 𝓛 P (tt, (tt, (tt, (tt, tt)))) (tt, (tt, (tt, (tt, tt)))));
       shows = fact_i 𝓤 _ (emp 𝓤) refl;

@@ -12,8 +12,8 @@ use denote.Struct.Laws as LL
 use denote.Triple.Clauses.{lasts}
 use Rattle.walks.proofs.Compute.{computes}
 use Rattle.walks.proofs.Forward.{Kind}
-use Rattle.walks.proofs.Parameters.{spent, put-together}
-use Rattle.image.specs.View.{viewMutOf}
+use Rattle.walks.proofs.Parameters.{spent, put_together}
+use Rattle.image.specs.View.{view_mut_of}
 use Rattle.image.proofs.ViewParameters.{number}
 use Rattle.image.specs.contracts.view.Gray8ViewMut as T
 use Rattle.image.proofs.view.Gray8ViewMut.TheLaws as T'
@@ -28,14 +28,14 @@ parameters = spent 0 tt u8 ∷ number ∷ number ∷ number ∷ []
 pub new_spec : {M : Type 1} → statement M
 unfolding code.routine tables_of
 new_spec 𝓤 𝓛 𝓜 𝓡 =
-    computes parameters (λ κs. T.the_row (named_lft 1 0 tt κs)) (λ κs a. viewMutOf a.0 a.1.0 a.1.1.0 a.1.1.1.0)
-    (λ κs a. LL.val (T.the_type (named_lft 1 0 tt κs)) (T'.the_laws (named_lft 1 0 tt κs)) (viewMutOf a.0 a.1.0 a.1.1.0 a.1.1.1.0)) 𝓛 𝓜 𝓡
+    computes parameters (λ κs. T.the_row (named_lft 1 0 tt κs)) (λ κs a. view_mut_of a.0 a.1.0 a.1.1.0 a.1.1.1.0)
+    (λ κs a. LL.val (T.the_type (named_lft 1 0 tt κs)) (T'.the_laws (named_lft 1 0 tt κs)) (view_mut_of a.0 a.1.0 a.1.1.0 a.1.1.1.0)) 𝓛 𝓜 𝓡
     (self.clauses 𝓛 𝓜.mem 𝓡.run) code.env name code.function (code.unfolded 𝓤 𝓛.H 𝓜 𝓡)
     (λ κs a g. record {
       ws = (tt, (tt, (tt, (tt, tt))));
       made = λ are.
           let P : Fml = lasts self.ended κs a (tt, (tt, (tt, (tt, tt)))) in
-          put-together 𝓛 (T.the_type (named_lft 1 0 tt κs)) (T'.the_laws (named_lft 1 0 tt
+          put_together 𝓛 (T.the_type (named_lft 1 0 tt κs)) (T'.the_laws (named_lft 1 0 tt
           κs)) a P
           (makes_shadow 𝓛 P (tt, (tt, (tt, (tt, tt)))) (tt, (tt, (tt, (tt, tt)))));
       shows = fact_i 𝓤 _ (emp 𝓤) refl;

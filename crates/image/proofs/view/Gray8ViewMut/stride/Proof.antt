@@ -35,6 +35,6 @@ stride-spec 𝓤 𝓛 𝓜 𝓡 =
       made = λ are.
           untouched parameters (λ _. usize) (λ _ b. b.0.stride) (λ _ b. vint w64 b.0.stride) 𝓛
           κs a tt are (id⊢ 𝓤 (emp 𝓤)) (uint_Makes 𝓛 w64 _ _ (refl, (fits _ are.0).1.1.1.0.1));
-      shows = fact_i 𝓤 _ (emp 𝓤) (record { answered = refl; bytes-stay = refl });
+      shows = fact_i 𝓤 _ (emp 𝓤) (record { answered = refl; bytes_stay = refl });
     })
     (record { entry = λ κs a t. t; returns = λ κs a bs. refl; leaves = λ κs a bs. refl })

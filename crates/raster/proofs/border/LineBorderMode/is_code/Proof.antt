@@ -1,6 +1,6 @@
 -- `LineBorderMode::is_code` meets its contract.
 use borrow.Author.Rules.{rules}
-use Rattle.raster.specs.Border.{isBorder}
+use Rattle.raster.specs.Border.{is_border}
 use Rattle.raster.proofs.border.LineBorderMode.is_code.Statement.{statement}
 use Rattle.raster.proofs.border.LineBorderMode.is_code.Tie as tie
 
@@ -14,7 +14,7 @@ value-requires : tie.Need-value-requires
 value-requires c κs = search rules
 
 returns : tie.Need-returns
-unfolding isBorder
+unfolding is_border
 returns c = cc
 
 pub is-code-spec : {M : Type 1} → statement M

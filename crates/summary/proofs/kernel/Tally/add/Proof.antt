@@ -2,12 +2,12 @@
 use borrow.Author.Rules.{rules}
 use mathlib.Core.Path.{refl, sym, ap, ◌∙◌}
 use Rattle.summary.specs.declared.kernel.TallyAnswer.TheVariants as answer
-use Rattle.summary.proofs.Answer.{part-beyond, part-faulty, part-counted}
+use Rattle.summary.proofs.Answer.{part_beyond, part_faulty, part_counted}
 use Rattle.summary.proofs.kernel.Tally.add.Statement.{statement}
 use Rattle.summary.proofs.kernel.Tally.add.Tie as tie
 
 returns : tie.Need-returns
-returns c = sym (part-beyond _ _ c.if1.true)
+returns c = sym (part_beyond _ _ c.if1.true)
 
 read-requires : tie.Need-read-requires
 read-requires c κs = search rules
@@ -24,7 +24,7 @@ returns-2 c =
     let named = judged.before.before in
     let call = named.before.before in
     sym
-    (part-faulty _ _ _ (sym call.read.ensures ∙ named.«record».given.1)
+    (part_faulty _ _ _ (sym call.read.ensures ∙ named.«record».given.1)
     (sym judged.lacks-length.ensures ∙ c.if2.true))
 
 added-requires : tie.Need-added-requires
@@ -41,12 +41,12 @@ returns-3 c =
     let reads = sym call.read.ensures ∙ named.«record».given.1 in
     ap answer.Tally c.added.ensures
     ∙ sym
-    (part-counted _ _ _ call.before.if1.false reads (sym judged.lacks-length.ensures ∙ c.before.if2.false))
+    (part_counted _ _ _ call.before.if1.false reads (sym judged.lacks-length.ensures ∙ c.before.if2.false))
 
 returns-4 : tie.Need-returns-4
 returns-4 c =
     let call = c.before.before in
-    sym (part-faulty _ _ _ (sym call.read.ensures ∙ c.enum_told.given.1) refl)
+    sym (part_faulty _ _ _ (sym call.read.ensures ∙ c.enum_told.given.1) refl)
 
 pub add_spec : {M : Type 1} → statement M
 add_spec =

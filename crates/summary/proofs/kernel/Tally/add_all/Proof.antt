@@ -5,9 +5,9 @@ use Prim.Native.Nat.{◌-◌, ◌≤◌}
 use native.Mathlib.Omega.{arith}
 use lib.ListN.{length, drop}
 use Rattle.summary.specs.File.{parts}
-use Rattle.summary.specs.Tally.{addedParts, Held}
+use Rattle.summary.specs.Tally.{added_parts, Held}
 use Rattle.summary.proofs.Answer.{part_held}
-use Rattle.summary.proofs.Turn.{turns-end, turn-counted, turn-refused}
+use Rattle.summary.proofs.Turn.{turns_end, turn_counted, turn_refused}
 use Rattle.summary.proofs.kernel.Tally.add_all.Statement.{statement}
 use Rattle.summary.proofs.kernel.Tally.add_all.Tie as tie
 
@@ -15,7 +15,7 @@ abbrev invariant-loop : tie.invariant-loop
 invariant-loop records tally₀ at₀ tally at =
     (at ≤ length records)
     × Held tally
-    × (addedParts tally (parts (drop at records)) ≡ addedParts tally₀ (parts records))
+    × (added_parts tally (parts (drop at records)) ≡ added_parts tally₀ (parts records))
 
 abbrev decreases-loop : tie.decreases-loop
 decreases-loop records tally₀ at₀ tally at = length records - at
@@ -57,7 +57,7 @@ loop-again c =
     let add = c.before.before.before in
     let min = add.before.before in
     let turn = min.before.before in
-    let counted = turn-counted _ turn.loop.tally turn.loop.at min.before.loop-test.true
+    let counted = turn_counted _ turn.loop.tally turn.loop.at min.before.loop-test.true
     min.min-usize.ensures add.add.ensures c.before.next.given.1 in (
       omega (arith, min.min-usize.ensures),
       part_held _ _ (sym add.add.ensures ∙ c.before.next.given.1) turn.loop.invariant.1,
@@ -72,13 +72,13 @@ returns c =
     let add = c.before.before.before in
     let min = add.before.before in
     let turn = min.before.before in
-    turn-refused _ turn.loop.tally turn.loop.at min.before.loop-test.true min.min-usize.ensures
+    turn_refused _ turn.loop.tally turn.loop.at min.before.loop-test.true min.min-usize.ensures
     add.add.ensures c.before.number.given.1 ∙ turn.loop.invariant.2
 
 returns-2 : tie.Need-returns-2 invariant-loop decreases-loop
 returns-2 c =
     let turn = c.before.loop in
-    turns-end _ turn.tally turn.at c.loop-test.false ∙ turn.invariant.2
+    turns_end _ turn.tally turn.at c.loop-test.false ∙ turn.invariant.2
 
 pub add-all-spec : {M : Type 1} → statement M
 add-all-spec =

@@ -1,4 +1,4 @@
-//! Links the static library that `rt staticlib smear_c` writes: in $SMEAR_LIB_DIR,
+//! Links the static library that `tools/build smear_c` writes: in $SMEAR_LIB_DIR,
 //! or in target/staticlib of this repository.
 
 fn main() {

@@ -1,4 +1,4 @@
-//! Links the static library that `rt staticlib smear_c` writes.
+//! Links the static library that `tools/build smear_c` writes.
 
 fn main() {
     let dir = format!("{}/../target/staticlib", env!("CARGO_MANIFEST_DIR"));

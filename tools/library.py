@@ -1,6 +1,6 @@
 """The proved library for Python: target/staticlib/libsmear_c.a made into a shared library, which ctypes loads; its
 functions are those of crates/smear_c/include/smear.h. What is not built yet, or is older than that header, is built
-first: the archive by `rt staticlib smear_c`, which proves it, and the shared library by the C compiler."""
+first: the archive by `tools/build smear_c`, which proves it, and the shared library by the C compiler."""
 import ctypes
 import functools
 import os
@@ -38,8 +38,8 @@ def build():
     """Builds what is not built. An archive that is older than the header may take other arguments. A shared library has
     its archive's time, so that another archive makes it anew."""
     if time_of(ARCHIVE) < time_of(HEADER):
-        print("building the library: rt staticlib smear_c", file=sys.stderr)
-        run("rt", "staticlib", "smear_c")
+        print("building the library: tools/build smear_c", file=sys.stderr)
+        run(os.path.join("tools", "build"), "smear_c")
     time = time_of(ARCHIVE)
     if time_of(SHARED) != time:
         # another tool may build it too, or load it: what has its name is whole
@@ -61,6 +61,6 @@ def function(name, *types):
     try:
         found = getattr(loaded(), name)
     except AttributeError:
-        raise Failed(f"{ARCHIVE} has no {name}: it is an older one; build it with rt staticlib smear_c") from None
+        raise Failed(f"{ARCHIVE} has no {name}: it is an older one; build it with tools/build smear_c") from None
     found.argtypes, found.restype = types, ctypes.c_uint8
     return found

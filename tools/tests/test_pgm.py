@@ -228,7 +228,7 @@ class Library(unittest.TestCase):
                 os.utime(archive, ns=(10**18, 10**18))
                 library.build()
                 library.build()
-        self.assertEqual(commands, ["rt", "cc", "cc"])
+        self.assertEqual(commands, ["tools/build", "cc", "cc"])
 
     def test_function_that_an_older_archive_has_not(self):
         with self.assertRaisesRegex(library.Failed, "has no smear_nothing"):

@@ -19,7 +19,6 @@ use Rattle.blur.specs.declared.select.Pass.{Pass}
 use Rattle.blur.specs.declared.length.LengthAnswer.{LengthAnswer}
 use Rattle.blur.specs.declared.length.LengthAnswer.TheVariants.{Length, Refused}
 use Rattle.swings.specs.Scan.{rest, begun, Filled}
-use Rattle.swings.specs.Swings.{strongest}
 use Rattle.blur.specs.Median.{length_of}
 use Rattle.blur.specs.Select.{Widths, started, SelectAsked}
 use Rattle.blur.specs.Length.{length_refusal, length_along, length_decision, length_answer, scan_plan, LengthMeasured}

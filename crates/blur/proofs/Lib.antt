@@ -6,10 +6,8 @@ pub mod ScanPlans
 pub mod Estimate
 pub mod Keys
 pub mod LengthExamples
-pub mod Parameters
 pub mod Passes
 pub mod Place
-pub mod PlainData
 pub mod Radix
 pub mod Rounds
 pub mod SameLength

@@ -2,7 +2,7 @@
 -- the bytes, and its swings are those of document 01's definition: `valid_plan`, `plan_length_holds`, `plan_few`,
 -- `plan_widths`.
 use mathlib.Core.Path.{◌≡◌, refl, ◌∙◌, ap}
-use mathlib.Core.Bool.{Bool, true, false, cond, not, ◌&&◌, ◌||◌, and-false}
+use mathlib.Core.Bool.{Bool, true, false, cond, not, ◌&&◌, ◌||◌}
 use mathlib.Core.List.{List, []}
 use Prim.Native.Nat.{ℕ, ◌-◌, ◌*◌, ◌≤◌, ◌<◌, ◌^◌}
 use native.Mathlib.Nat.{le_trans, mul-le-mul_left, mul-le-mul, sub-zero, zero-add}
@@ -10,8 +10,8 @@ use native.Mathlib.Omega.{arith}
 use lib.Dec.{eqb, ltb}
 use lib.IntN.{pos}
 use lib.ListN.{length}
-use lib.Ieee.{Float, binary64}
-use borrow.Author.Tests.{eq-eqb, ne_eqb, lt-ltb, le-ltb, ltb-false}
+use lib.Ieee.{binary64}
+use borrow.Author.Tests.{eq-eqb, lt-ltb, le-ltb, ltb-false}
 use Rattle.image.specs.Refusal.{layout_refusal, Laid}
 use Rattle.image.proofs.Chain.{first_own, first_zero, cond_zero}
 use Rattle.image.proofs.Refusal.{laid}
@@ -72,37 +72,6 @@ high_enough w h m a e =
 
 -- ---- the plan
 module _ (len lent w h stride : ℕ) (d : RasterDirection4) (m a : ℕ) where
-  pub refused_scans : (length_refusal len w h stride lent ≡ 0 → ⊥) → scanned len lent w h stride m a ≡ false
-  refused_scans n = ap (λ (t : Bool). t && not (too_little w h m a)) (ne_eqb (length_refusal len w h stride lent) 0 n)
-
-  pub little_scans : too_little w h m a ≡ true → scanned len lent w h stride m a ≡ false
-  little_scans e = ap (λ (t : Bool). eqb (length_refusal len w h stride lent) 0 && not t) e
-      ∙ and-false (eqb (length_refusal len w h stride lent) 0)
-
-  pub all_scans : length_refusal len w h stride lent ≡ 0 → too_little w h m a ≡ false
-      → scanned len lent w h stride m a ≡ true
-  all_scans e l =
-      ap (λ (t : Bool). eqb (length_refusal len w h stride lent) 0 && not t) l
-      ∙ ap (λ (t : Bool). t && true) (eq-eqb (length_refusal len w h stride lent) 0 e)
-
-  pub plan_is : (t : Bool) → scanned len lent w h stride m a ≡ t → {number count step : ℕ} {px : Float}
-      → number ≡ length_refusal len w h stride lent → count ≡ cond t (line_count d w h) 0
-      → step ≡ cond t (place_step d stride) 1 → px ≡ step_pixels d
-      → ◌≡◌ {A = ScanPlan}
-      (record {
-        refusal = number;
-        direction = d;
-        width = w;
-        height = h;
-        stride = stride;
-        count = count;
-        step =
-            step;
-        pixel = px;
-        minimum_amplitude = a;
-      }) (scan_plan len lent w h stride d m a)
-  plan_is t s n c e p = rw (s, n, c, e, p)
-
   module _ (e : length_refusal len w h stride lent ≡ 0) where
     pub stride_fits : len < 2 ^ 64 → too_little w h m a ≡ false → stride < 2 ^ 63
     stride_fits k l =
@@ -157,7 +126,6 @@ module _ (bytes : List ℕ) (lent w h stride : ℕ) (d : RasterDirection4) (m a 
 
   -- no more than there are pixels, and thus than there are records
   pub plan_few : length (rest bytes plan begun.next) ≤ w * h
-  unfolding length
   plan_few = le_trans (thinned_few (pos 0) all) (rw plan-swings (go (too_little w h m a)))
     where
       l : Laid (length bytes) w h stride

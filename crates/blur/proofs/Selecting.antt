@@ -1,12 +1,12 @@
--- The state of the loop of `select`: `while a.left > 0 { b = pass(a, counts); a = narrow(b, counts); }`. `Real a` is
--- what else is known of each state. Assumes nothing.
+-- The state of the loop of `select`: `while a.left > 0 { b = pass(a, counts); a = narrow(b, counts); }`. `At` is
+-- what a turn starts from. Assumes nothing.
 use mathlib.Core.Path.{◌≡◌, refl, sym, ◌∙◌, ap, subst}
 use Prim.Native.Nat.{ℕ, ◌≤◌, ◌<◌}
 use native.Mathlib.Omega.{arith}
 use mathlib.Core.List.{List}
 use lib.IntN.{pos}
 use lib.Ieee.{binary64, of_bits}
-use lib.ListN.{length, take, replicate, length-take, length-replicate}
+use lib.ListN.{length, take, replicate, length-take}
 use Rattle.walks.proofs.Lists.{take_less}
 use Rattle.swings.specs.declared.Swing.{Swing}
 use Rattle.blur.specs.Select.{pass_all, tally_all, narrowed, zeros, round, PassAsked, Passes, NarrowAsked, Narrows}
@@ -36,30 +36,18 @@ pub no_counts : replicate 8192 0 ≡ zeros
 unfolding zeros
 no_counts = refl
 
-module _ (Real : Pass → Type 0) (xs : List Swing) (p : Pass) where
+module _ (xs : List Swing) (p : Pass) where
   abbrev pub swings : List Swing
   swings = take p.total xs
 
-  pub record At : Type 0 where
-    pub acc : Both
-    pub real : Real acc.0
-    pub sized : length acc.1 ≡ 8192
-    pub clear : acc.1 ≡ zeros
-    pub known : Known swings acc.0
+  pub record At (c : Pass) (counts : List ℕ) : Type 0 where
+    pub clear : counts ≡ zeros
+    pub known : Known swings c
 
-  abbrev pub starts : SelectAsked swings p → Real p → At
-  starts asks is = record {
-    acc = (p, replicate 8192 0);
-    real = is;
-    sized = length-replicate {A = ℕ} 8192 0;
-    clear = no_counts;
-    known = known_first swings p asks;
-  }
+  pub starts : SelectAsked swings p → At p (replicate 8192 0)
+  starts asks = record { clear = no_counts; known = known_first swings p asks }
 
-  module _ (asks : SelectAsked swings p) (t : At) (more : 0 < t.acc.0.left) where
-    abbrev c : Pass
-    c = t.acc.0
-
+  module _ (asks : SelectAsked swings p) {c : Pass} {counts : List ℕ} (t : At c counts) (more : 0 < c.left) where
     -- the records that a pass goes over
     abbrev shown : List Swing
     shown = take c.reach xs
@@ -73,29 +61,26 @@ module _ (Real : Pass → Type 0) (xs : List Swing) (p : Pass) where
     shown-is : take c.reach swings ≡ shown
     shown-is = take_less c.reach p.total xs (omega (arith, within, length-take p.total xs))
 
-    pub passable : PassAsked shown c t.acc.1
+    pub passable : PassAsked shown c counts
     passable = subst (PassAsked shown c) (sym t.clear) (subst (λ (l : List Swing). PassAsked l c zeros) shown-is
         (countables c.reach swings (record { width = of_bits binary64 0; swing = pos 0 }) c t.known asks.widths
         asks.few))
 
     -- the pass has left u, and the choice of a digit v
-    module _ (u : Both) (e : Passes shown c t.acc.1 u.1 u.0) where
+    module _ (u : Both) (e : Passes shown c counts u.1 u.0) where
       pub narrowable_after : NarrowAsked u.0 u.1
-      narrowable_after = subst (λ (v : Both). NarrowAsked v.0 v.1) (sym (passes_is shown t.acc u e)) (subst (λ
+      narrowable_after = subst (λ (v : Both). NarrowAsked v.0 v.1) (sym (passes_is shown (c, counts) u e)) (subst (λ
           (cs : List ℕ). NarrowAsked (pass_all shown c) (tally_all shown c cs)) (sym t.clear) (narrowable swings c t.known more shown))
 
       module _ (v : Both) (e' : Narrows u.0 u.1 v.1 v.0) where
         pub round_is : v.0 ≡ round swings c
         round_is =
-            ap (λ (z : Both). z.0) (narrows_is u v e' ∙ ap onward (passes_is shown t.acc u e))
+            ap (λ (z : Both). z.0) (narrows_is u v e' ∙ ap onward (passes_is shown (c, counts) u e))
             ∙ ap (λ (cs : List ℕ). narrowed (pass_all shown c) (tally_all shown c cs)) t.clear
             ∙ ap (λ (l : List Swing). narrowed (pass_all l c) (tally_all l c zeros)) (sym shown-is)
 
-        abbrev pub after : Real v.0 → length v.1 ≡ 8192 → At
-        after is l = record {
-          acc = v;
-          real = is;
-          sized = l;
+        pub after : At v.0 v.1
+        after = record {
           clear = e'.counts;
           known = subst (Known swings) (sym round_is) (known_next swings c t.known more asks.widths);
         }

@@ -1,40 +1,26 @@
--- One step each of what the functions do, over plain values: the choice digit by digit, what a record adds, the state
--- after a pass, and signed numbers in their words.
+-- One step each of what the functions do, over plain values: the digit chosen, what a record adds, the state after a
+-- pass, and signed numbers in their words.
 use mathlib.Core.Path.{◌≡◌, refl, ap, ◌∙◌}
-use mathlib.Core.Bool.{Bool, true, false, not, cond, ◌&&◌, and-false}
+use mathlib.Core.Bool.{Bool, true, false, cond, ◌&&◌}
 use mathlib.Core.List.{List, [], ◌∷◌}
-use Prim.Native.Nat.{ℕ, suc, ◌+◌, ◌-◌, ◌*◌, ◌/◌, ◌%◌, ◌≤◌, ◌<◌}
-use native.Mathlib.Nat.{add-zero, lt_trans}
-use native.Mathlib.Numerals.{add-one}
+use Prim.Native.Nat.{ℕ, suc, ◌+◌, ◌-◌, ◌*◌, ◌/◌, ◌%◌, ◌<◌}
+use native.Mathlib.Nat.{add-zero}
 use native.Mathlib.Omega.{arith}
-use lib.Dec.{ltb, eqb, lit<}
-use lib.IntN.{ℤ, pos, negsuc, ◌*ℤ◌}
-use lib.Signed.{mag, le_z}
-use lib.ListN.{length, get_or, set, replicate, drop, drop_of_length-le}
-use lib.Seq.{drop-cons, set-get_or}
-use mir.Syntax.{w32, w64}
+use lib.Dec.{ltb, eqb}
+use lib.IntN.{ℤ, pos, ◌*ℤ◌}
+use lib.Signed.{le_z}
+use lib.ListN.{length, get_or, set, replicate}
+use lib.Seq.{set-get_or}
+use mir.Syntax.{w32}
 use mir.Val.{SFits, to_z, of_z}
 use mir.ValLaws.{to_z-of_z}
-use borrow.Author.Tests.{lt-ltb, le-ltb, eq-eqb, ne_eqb, not-true, not-false}
 use Rattle.swings.specs.declared.Swing.{Swing}
 use Rattle.blur.specs.declared.select.Pass.{Pass}
 use Rattle.blur.specs.declared.select.Chosen.{Chosen}
 use Rattle.blur.specs.Median.{stays}
 use Rattle.blur.specs.Select.{high, counted, pick_from, wanted, kept_of, prefix_of, reach_of, zeros, Tallied, Narrows}
 
--- ---- the choice, digit by digit
-pub pick_here : (cs : List ℕ) (d p : ℕ) → d < length cs → p < get_or cs d 0
-    → record { digit = d; place = p } ≡ pick_from (drop d cs) d p
-pick_here cs d p h k = rw (drop-cons cs d 0 h, lt-ltb p (get_or cs d 0) k) refl
-
-pub pick_next : (cs : List ℕ) (d p : ℕ) → d < length cs → get_or cs d 0 ≤ p
-    → pick_from (drop (d + 1) cs) (d + 1) (p - get_or cs d 0) ≡ pick_from (drop d cs) d p
-pick_next cs d p h k = rw (add-one d, drop-cons cs d 0 h, le-ltb p (get_or cs d 0) k) refl
-
-pub pick_end : (cs : List ℕ) (d p : ℕ) → length cs ≤ d → record { digit = 0; place = 0 } ≡ pick_from (drop d cs) d p
-pick_end cs d p h = rw (drop_of_length-le cs h) refl
-
--- the digit chosen is one of the counts' places
+-- ---- the digit chosen is one of the counts' places
 pub pick_lt : (cs : List ℕ) (d p : ℕ) → 0 < d + length cs → (pick_from cs d p).digit < d + length cs
 pick_lt [] d p h = h
 pick_lt (c ∷ cs) d p h = go (ltb p c) (pick_lt cs (suc d) (p - c) (omega arith))
@@ -43,20 +29,6 @@ pick_lt (c ∷ cs) d p h = go (ltb p c) (pick_lt cs (suc d) (p - c) (omega arith
         → (cond b (record { digit = d; place = p }) (pick_from cs (suc d) (p - c))).digit < d + suc (length cs)
     go true k = omega arith
     go false k = omega arith
-
--- ---- whether a record counts, test by test
-pub weak : (r t u : Bool) → r ≡ t → not r ≡ true → ◌≡◌ {A = ℕ} 0 (cond (t && u) 1 0)
-weak r t u e f = rw (← e, not-true r f) refl
-
-pub other : (h p : ℕ) (t : Bool) → (h ≡ p → ⊥) → ◌≡◌ {A = ℕ} 0 (cond (t && eqb h p) 1 0)
-other h p t f = rw (ne_eqb h p f, and-false t) refl
-
-pub hit : (r t : Bool) (h p : ℕ) → r ≡ t → not r ≡ false → h ≡ p → ◌≡◌ {A = ℕ} 1 (cond (t && eqb h p) 1 0)
-hit r t h p e f g = rw (← e, not-false r f, eq-eqb h p g) refl
-
-pub cond_le : (b : Bool) → cond b 1 0 ≤ 1
-cond_le true = omega arith
-cond_le false = omega arith
 
 -- ---- one record: what is added is 1 where the pass counts it, else 0
 pub one_step : (s : Swing) (a : Pass) (cs : List ℕ) (h one : ℕ) → h ≡ high s a
@@ -134,15 +106,5 @@ pub stays_of : (z top : ℤ) → SFits w32 z → SFits w32 top
     → le_z (to_z w32 (of_z w32 top)) (pos 2 *ℤ to_z w32 (of_z w32 z)) ≡ le_z top (pos 2 *ℤ z)
 stays_of z top f g = rw (to_z-of_z w32 top g, to_z-of_z w32 z f) refl
 
-pub wider : {z : ℤ} → SFits w32 z → SFits w64 z
-wider f = record { sfits = lt_trans f.sfits (lit< tt) }
-
 pub twice_suc : (m : ℕ) → 2 * suc m ≡ suc (2 * m + 1)
 twice_suc m = omega arith
-
-twice_mag : (z : ℤ) → mag (pos 2 *ℤ z) ≤ 2 * mag z + 1
-twice_mag (pos n) = omega arith
-twice_mag (negsuc n) = rw (twice_suc n) (omega arith)
-
-pub twice_fits : {z : ℤ} → SFits w32 z → SFits w64 (pos 2 *ℤ z)
-twice_fits {z} f = record { sfits = omega (arith, twice_mag z, f.sfits) }

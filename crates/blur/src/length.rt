@@ -16,20 +16,20 @@ use swings::kernel::fill;
 use swings::scan::{ScanPlan, begin};
 
 // The smear's length, or nothing to tell it by.
-#[derive(Drop)]
+#[derive(Clone, Copy)]
 pub enum LineLength {
     Found(f64),
     Nothing,
 }
 
-#[derive(Drop)]
+#[derive(Clone, Copy)]
 pub enum LengthAnswer {
     Length(LineLength),
     Refused(u8),
 }
 
 // How many swings there must be, and by how much a line must change at least for a swing.
-#[derive(Drop)]
+#[derive(Clone, Copy)]
 pub struct LineLengthConfig {
     pub minimum_transitions: usize,
     pub minimum_amplitude: u8,

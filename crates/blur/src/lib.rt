@@ -1,4 +1,6 @@
 // Measuring the length of a picture's smear, along a direction.
+#![tactic(auto)]
+
 pub mod length;
 mod records;
 mod select;

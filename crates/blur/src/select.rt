@@ -17,7 +17,7 @@ use swings::scan::Scan;
 // A pass over the first `reach` of `total` records, with `left` digits to find: `count` records were counted so far, of
 // those that stay and have the digits `prefix` above the digit at `shift`. Of the keys with that prefix the one at
 // `place` is wanted; `kept` swings stay in all, and 0 before they are counted. All keys lie from `low` to `high`.
-#[derive(Drop)]
+#[derive(Clone, Copy)]
 pub struct Pass {
     pub left: u32,
     pub total: usize,
@@ -32,7 +32,7 @@ pub struct Pass {
     pub count: u32,
 }
 
-#[derive(Drop)]
+#[derive(Clone, Copy)]
 pub struct Chosen {
     pub digit: usize,
     pub place: u32,

@@ -1,5 +1,5 @@
 -- The work along a direction, from what the calls accept: a kernel that is taken (`restoration_kernel`,
--- `unsharp_kernel`), what the lines ask (`lines-asked`), and that what they wrote at the strides of rows is what is to
+-- `unsharp_kernel`), what the lines ask (`source_asked`), and that what they wrote at the strides of rows is what is to
 -- be written at the pictures' own (`along_painted`).
 use mathlib.Core.Path.{◌≡◌, ap}
 use mathlib.Core.Bool.{true}

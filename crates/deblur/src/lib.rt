@@ -1,4 +1,6 @@
 // Restoration along lines, and line unsharp: the settings, the answers and the calls.
+#![tactic(auto)]
+
 ghost use Rattle.std.specs.Prelude.{◌≡◌};
 ghost use Rattle.image.specs.Call.{gray8};
 ghost use Rattle.raster.specs.Direction.{from_angle};
@@ -18,7 +20,7 @@ pub mod refusal;
 mod scatter;
 
 // Settings of the iterated restoration.
-#[derive(Drop)]
+#[derive(Clone, Copy)]
 pub struct VanCittertConfig {
     // The blur's direction, which is taken to the nearest of the four.
     pub theta_radians: f64,
@@ -32,7 +34,7 @@ pub struct VanCittertConfig {
 }
 
 // Settings of the line unsharp.
-#[derive(Drop)]
+#[derive(Clone, Copy)]
 pub struct DirectionalUnsharpConfig {
     // The blur's direction, which is taken to the nearest of the four.
     pub theta_radians: f64,
@@ -43,13 +45,13 @@ pub struct DirectionalUnsharpConfig {
     pub border: LineBorderMode,
 }
 
-#[derive(Drop)]
+#[derive(Clone, Copy)]
 pub struct RestorationMetadata {
     // The direction that the lines took.
     pub raster_direction: RasterDirection4,
 }
 
-#[derive(Drop)]
+#[derive(Clone, Copy)]
 pub enum RestorationAnswer {
     Done(RestorationMetadata),
     // The number of the refusal.

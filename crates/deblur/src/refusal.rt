@@ -63,6 +63,7 @@ fn factor_refusal(factor: f64, limit: u8) -> u8
 }
 
 // 8 or 9, for the iterations.
+#[tactic(auto, unfolding(crate::specs::Refusal::iterations_refusal))]
 fn iterations_refusal(iterations: usize) -> u8
     ensures { result ≡ iterations_refusal iterations }
 {

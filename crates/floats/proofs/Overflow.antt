@@ -1,7 +1,7 @@
 -- A rounded value is finite or not whatever its sign (`round_sign`); one that is not is the infinity of its sign
 -- (`round_infinite`).
 use Rattle.std.proofs.Common.{◌≡◌, ℕ, zero, suc, ◌+◌, ◌*◌, ◌^◌, Bool, true, false, cond, ltb, sym, refl, ◌∙◌, true≢false}
-use lib.Ieee.{Float, Format, inf, low, emax, odd, units, round}
+use lib.Ieee.{Float, Format, inf, prec, low, emax, odd, units, round}
 use lib.Ieee.Scale.{finite}
 
 -- a finite value, or an infinity, by a test
@@ -22,11 +22,11 @@ module _ (f : Format) (s : Bool) (q k : ℕ) where
 
   units-finite : finite (units f s q k) ≡ ltb (q * 2 ^ k) (2 ^ (low f + suc (emax f)))
   unfolding units
-  units-finite = tested-finite s _ (odd_finite _ q) (ltb (q * 2 ^ k) (2 ^ (low f + suc (emax f))))
+  units-finite = tested-finite s _ (odd_finite (suc (prec f)) q) (ltb (q * 2 ^ k) (2 ^ (low f + suc (emax f))))
 
   units-infinite : finite (units f s q k) ≡ false → units f s q k ≡ inf s
   unfolding units
-  units-infinite = tested-infinite s _ (odd_finite _ q) (ltb (q * 2 ^ k) (2 ^ (low f + suc (emax f))))
+  units-infinite = tested-infinite s _ (odd_finite (suc (prec f)) q) (ltb (q * 2 ^ k) (2 ^ (low f + suc (emax f))))
 
 pub round_sign : (f : Format) (s t : Bool) (a c : ℕ) → finite (round f s a c) ≡ finite (round f t a c)
 unfolding round

@@ -1,6 +1,6 @@
 -- What value an operation gives, as a fraction (`HasValue` of lib.Ieee.Exact): a whole number as a double, a product by
 -- a power of two, and a double cut to a whole number. A parameter's own value is `(refl, refl) : HasValue (fin s m e) s
--- (m * up e) (down e)`. That it fits its format is `passes (fits binary64 x) c.good.0.1`, with `passes` of
+-- (m * up e) (down e)`. That it fits its format is `passes (fits binary64 x) c.well_formed.0.1`, with `passes` of
 -- denote.Floats.
 use Rattle.std.proofs.Common.{◌≡◌, ℕ, zero, suc, ◌+◌, ◌-◌, ◌*◌, ◌/◌, ◌%◌, ◌^◌, ◌<◌, ◌≤◌, min, Bool, true, false, ◌&&◌, T, eqb, ltb, leb, ℤ, pos, negsuc, sym, refl, ap, ◌∙◌, subst, true≢false, le_trans, le_of_eq, le_of_suc-le-suc, mul-le-mul_right, zero-lt-suc, mul_assoc, mul_comm, div-lt_iff_lt-mul, lt_of_mul-lt-mul_right, mul-lt-mul_of_pos_right, one-mul, lt_of_not-le, mul-one, not-le_of_lt, mul_left_comm, arith, eqb→eq, ltb→lt, lt→ltb, leb→le, pow_pos, pow-add}
 use native.Mathlib.Nat.{zero-div}

@@ -1,5 +1,7 @@
 // What the stage asks of doubles: finite or not, q from a factor and back, and the odd length that an
 // estimate gives.
+#![tactic(auto)]
+
 ghost use Rattle.std.specs.Prelude.{◌≡◌, ◌^◌, ◌≤◌, T};
 ghost use Rattle.std.specs.Float.Ieee.Scale.{finite};
 ghost use Rattle.std.specs.Float.Ieee.Positive.{num, den};
@@ -7,7 +9,7 @@ ghost use Rattle.floats.specs.Factor.{max_relaxation, max_gain, within, rounded_
 ghost use Rattle.floats.specs.Odd.{ceiling, odd_from, odd_length};
 
 // q, or that the factor is refused.
-#[derive(Drop)]
+#[derive(Clone, Copy)]
 pub enum Quantized {
     Q16(u32),
     Refused,
@@ -28,7 +30,7 @@ const SCALE: f64 = Quantized::SCALE as f64;
 const HALVES: f64 = (2 * Quantized::SCALE) as f64;
 
 // The odd length, or that the estimate is no number or above 2^53.
-#[derive(Drop)]
+#[derive(Clone, Copy)]
 pub enum OddLength {
     Length(u64),
     Beyond,

@@ -11,6 +11,5 @@ pub mod Rows
 pub mod Tight
 pub mod Front
 pub mod Appending
-pub mod ViewParameters
 pub mod ViewRefusal
 pub mod Examples

@@ -89,8 +89,8 @@ module _ {len width height stride : ℕ} where
   unfolding layout_refusal
   laid e =
       let s = first_zero (sides_refusal width height) _ e in
-      let d = cond_zero _ 3 _ (omega arith) s.1 in
-      let f = cond_zero _ 4 _ (omega arith) d.1 in
+      let d = cond_zero (ltb stride width) 3 _ (omega arith) s.1 in
+      let f = cond_zero (ltb len (stride * (height - 1) + width)) 4 0 (omega arith) d.1 in
       record {
         width_pos = (sides_some width height s.0).0;
         width_most = (sides_few width height s.0).0;

@@ -1,6 +1,6 @@
 -- A picture a row at a time: one more row is painted (`painted_row`), a row as a part of the bytes (`row_part_length`,
--- `row_part_at`), rows without gaps (`row_end_within`), a copied row (`copied_written`). n and m are a row's width as
--- the code counts it, end − start.
+-- `row_part_at`), rows without gaps (`row_end_within`), a copied row (`copied_whole`,
+-- `copied_written`). n and m are a row's width as the code counts it, end − start.
 use Prim.Native.Nat.{ℕ, ◌+◌, ◌*◌, ◌/◌, ◌%◌, ◌≤◌, ◌<◌}
 use mathlib.Core.List.{List, ◌++◌, append-nil}
 use mathlib.Core.Path.{◌≡◌, ap, ap₂, ◌∙◌}
@@ -47,17 +47,20 @@ module _ (xs : List ℕ) (w s y m : ℕ) (same : m ≡ w) (fits : y * s + w ≤ 
   pub row_part_at : (x : ℕ) → x < w → get_or row_part x 0 ≡ pixel xs s x y
   row_part_at x h = get_d_part (y * s) m xs x 0 (rw same h)
 
--- what `bytes::copy` leaves of as many bytes
-pub copied_written : (src dst : List ℕ) {new : List ℕ} → length src ≡ length dst
-    → new ≡ take (length src) src ++ drop (length src) dst
+-- what `copy_from_slice` leaves
+pub copied_whole : (src dst : List ℕ) {new : List ℕ} → length src ≡ length dst → new ≡ src
     → Written 0 (front (length src)) (λ x. get_or src x 0) dst new
-copied_written src dst {new} same e =
+copied_whole src dst same all =
     record {
       same_length = ap length all ∙ same;
       hits = λ j _ _. ap (λ (xs : List ℕ). get_or xs j 0) all;
       rest = λ j below miss. absurd (false_not_true miss ((front_iff (length src) j).1 (omega arith)));
     }
-  where
-    all : new ≡ src
-    all =
-        e ∙ ap₂ ◌++◌ (take-length src) (ap (λ (n : ℕ). drop n dst) same ∙ drop-length dst) ∙ append-nil src
+
+-- what `bytes::copy` leaves of as many bytes
+pub copied_written : (src dst : List ℕ) {new : List ℕ} → length src ≡ length dst
+    → new ≡ take (length src) src ++ drop (length src) dst
+    → Written 0 (front (length src)) (λ x. get_or src x 0) dst new
+copied_written src dst same e =
+    copied_whole src dst same
+    (e ∙ ap₂ ◌++◌ (take-length src) (ap (λ (n : ℕ). drop n dst) same ∙ drop-length dst) ∙ append-nil src)

@@ -1,6 +1,6 @@
 -- Document 01, the views that are kept: a picture in borrowed bytes.
 use Rattle.std.specs.Prelude.{ℕ, ◌≡◌, List}
-use Rattle.std.specs.Borrow.{Bor}
+use Rattle.std.specs.Borrow.{Bor, MutBor}
 use Rattle.image.specs.Picture.{pixel_of}
 use Rattle.image.specs.declared.Pixel.{Pixel}
 use Rattle.image.specs.declared.view.Gray8View.{Gray8View}
@@ -11,7 +11,7 @@ abbrev pub view_of : Bor (List ℕ) → ℕ → ℕ → ℕ → Gray8View
 view_of bytes width height stride = record { «data» = bytes; width = width; height = height; stride = stride }
 
 -- the same over bytes that can be written
-abbrev pub view_mut_of : Bor (List ℕ) → ℕ → ℕ → ℕ → Gray8ViewMut
+abbrev pub view_mut_of : MutBor (List ℕ) → ℕ → ℕ → ℕ → Gray8ViewMut
 view_mut_of bytes width height stride = record { «data» = bytes; width = width; height = height; stride = stride }
 
 -- The pixel in column x and row y of a view, as of its bytes.

@@ -22,7 +22,7 @@ pub fn copy_rows(
     while y < height {
         let from = y * stride;
         let to = y * dst_stride;
-        bytes::copy(&data[from..from + width], &mut dst[to..to + width]);
+        dst[to..to + width].copy_from_slice(&data[from..from + width]);
         y += 1;
     }
 }

@@ -1,4 +1,6 @@
 // Pictures in the caller's bytes: the layout's refusals, pixels and rows.
+#![tactic(auto)]
+
 ghost use Rattle.std.specs.Prelude.{◌≡◌};
 ghost use Rattle.image.specs.Refusal.{sides_refusal, layout_refusal, sized_refusal, pair_refusal};
 ghost use Rattle.image.specs.Picture.{pixel_of, row_of};
@@ -81,7 +83,7 @@ pub fn pair_refusal(
 }
 
 // A pixel, or that there is none at a place.
-#[derive(Drop)]
+#[derive(Clone, Copy)]
 pub enum Pixel {
     Value(u8),
     Outside,

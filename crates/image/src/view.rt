@@ -8,7 +8,7 @@ ghost use Rattle.image.specs.View.{view_of, view_mut_of, pixel_of_view, pixel_of
 use crate::Pixel;
 
 // A picture to be read.
-#[derive(Drop)]
+#[derive(Clone, Copy)]
 pub struct Gray8View<'a> {
     pub data: &'a [u8],
     pub width: usize,
@@ -102,18 +102,24 @@ impl<'a> Gray8ViewMut<'a> {
 
     // Refusals 1 to 4 of the layout; 0 where it is accepted.
     pub fn refusal(self) -> u8
-        ensures { OnlyReads self.entry.«data».now self.exit.0.now result
-            (layout_refusal (length self.entry.«data».now) self.entry.width self.entry.height
+        ensures { OnlyReads self.entry.«data».now self.exit.0.now result (layout_refusal
+            (length self.entry.«data».now) self.entry.width self.entry.height
             self.entry.stride) }
     {
         crate::layout_refusal(self.data.len(), self.width, self.height, self.stride)
     }
 
     pub fn get(self, x: usize, y: usize) -> Pixel
-        ensures { OnlyReads self.entry.«data».now self.exit.0.now result
-            (pixel_of_view_mut self.entry x y) }
+        ensures { OnlyReads self.entry.«data».now self.exit.0.now result (pixel_of_view_mut
+            self.entry x y) }
     {
-        crate::pixel_in(self.data, self.width, self.height, self.stride, x, y)
+        let Gray8ViewMut {
+            data,
+            width,
+            height,
+            stride,
+        } = self;
+        crate::pixel_in(data, width, height, stride, x, y)
     }
 
     pub fn width(self) -> usize

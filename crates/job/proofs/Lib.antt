@@ -10,6 +10,5 @@ pub mod Plans
 pub mod Same
 pub mod Settings
 pub mod Assembly
-pub mod Parameters
 pub mod Demands
 pub mod WrongPrograms

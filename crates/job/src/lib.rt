@@ -1,4 +1,6 @@
 // The whole job: direction, length and restoration of one picture.
+#![tactic(auto)]
+
 ghost use Rattle.std.specs.Prelude.{◌≡◌};
 ghost use Rattle.image.specs.Call.{gray8};
 ghost use Rattle.job.specs.Job.{job_default, Restored};
@@ -16,7 +18,7 @@ mod plan;
 
 // Settings of the whole job: thresholds of the length and the direction, and those of the restoration that are not
 // measured.
-#[derive(Drop)]
+#[derive(Clone, Copy)]
 pub struct JobConfig {
     // How many swings there must be.
     pub minimum_transitions: usize,
@@ -31,7 +33,7 @@ pub struct JobConfig {
 }
 
 // What was measured, and used.
-#[derive(Drop)]
+#[derive(Clone, Copy)]
 pub struct JobResult {
     pub direction: RasterDirection4,
     // The odd length in pixels that the estimate was raised to.
@@ -39,7 +41,7 @@ pub struct JobResult {
     pub estimate: f64,
 }
 
-#[derive(Drop)]
+#[derive(Clone, Copy)]
 pub enum JobAnswer {
     Done(JobResult),
     // The number of the refusal.

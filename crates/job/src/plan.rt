@@ -16,7 +16,7 @@ use raster::direction::RasterDirection4;
 use tensor::direction::{DirectionAnswer, estimate_confident_direction};
 
 // What a job starts with: a refusal, 1 to 10 or 17, or 0, and the direction of the picture of one that is not refused.
-#[derive(Drop)]
+#[derive(Clone, Copy)]
 pub struct JobStart {
     pub refusal: u8,
     pub direction: RasterDirection4,

@@ -1,4 +1,4 @@
--- The means of a line in the scratch: the estimate stays as it was (`-kept`), its windows are small enough to divide
+-- The means of a line in the scratch: the estimate stays as it was (`_kept`), its windows are small enough to divide
 -- (`window_size`), and the means are written place after place (`means_none`, `means_next`) or piece after piece
 -- (`means_join`).
 use mathlib.Core.Path.{◌≡◌, refl, sym, ap, ap₂, ◌∙◌}

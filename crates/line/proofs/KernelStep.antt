@@ -1,5 +1,5 @@
--- One step of the estimate: in the machine, for q = 65,536 (`whole-`) and for any q (`cut-`), over plain numbers; and
--- along a line in the scratch, sample after sample (`stepped-`).
+-- One step of the estimate: in the machine, for q = 65,536 (`whole_`) and for any q (`cut_`), over plain numbers; and
+-- along a line in the scratch, sample after sample (`stepped_`).
 use mathlib.Core.Path.{◌≡◌, refl, sym, ap, ap₂, ◌∙◌}
 use mathlib.Core.List.{List}
 use Prim.Native.Nat.{ℕ, ◌+◌, ◌≤◌, ◌<◌}
@@ -53,7 +53,7 @@ module _ {y b m : ℤ} {q : ℕ} (fy : SFits w32 y) (fb : SFits w32 b) (fm : SFi
   whole_adds = fits_as whole_sum (sfits_size S.fits)
 
   pub whole_is : to_z w32 (of_z w32 (whole_in b m y)) ≡ step_from q b m y
-  whole_is = held whole_sum (sfits_size S.fits)
+  whole_is = held {w = w32} whole_sum (sfits_size S.fits)
 
 -- ---- any q, in 64 bits; xb, xm and xy as they stand in the machine
 

@@ -1,5 +1,5 @@
--- A window's sum in the machine: one place on (`slide-`), and divided by the length by a multiplication (`raised-`,
--- `quotient-`). Over plain numbers.
+-- A window's sum in the machine: one place on (`slide_`), and divided by the length by a multiplication (`raised_`,
+-- `quotient_`). Over plain numbers.
 use mathlib.Core.Path.{◌≡◌, refl, sym, ap, ap₂, ◌∙◌}
 use Prim.Native.Nat.{ℕ, zero, suc, ◌+◌, ◌*◌, ◌/◌, ◌^◌, ◌≤◌, ◌<◌}
 use native.Mathlib.Nat.{mul_comm, mul-le-mul_right, mul-le-mul, mul-div-le, div-le_of_le-mul, zero-add}
@@ -32,7 +32,7 @@ module _ {z : ℤ} (f : SFits w32 z) where
   widens = fits_as (to_z-of_z f) (sfits_widen tt f)
 
   pub widened : to_z w64 (of_z w64 (to_z w32 (of_z w32 z))) ≡ z
-  widened = held (to_z-of_z f) (sfits_widen tt f)
+  widened = held {w = w64} (to_z-of_z f) (sfits_widen tt f)
 
 -- what enters less what leaves, as it stands in the machine
 abbrev change_in : ℤ → ℤ → ℤ
@@ -156,7 +156,8 @@ module _ {z a : ℤ} {L r : ℕ} (d : Dividing z a L r) where
   pub quotient_lowers : SFits w32 (to_z w32 (nat_abs (raised_in z a) * r / 4398046511104) -ℤ pos 262144)
   quotient_lowers = fits_as floored floored-fits
 
-  pub quotient_floors : to_z w32 (of_z w32 (to_z w32 (nat_abs (raised_in z a) * r / 4398046511104) -ℤ pos 262144)) ≡ shr_z z L
+  pub quotient_floors : to_z w32 (of_z w32 (to_z w32 (nat_abs (raised_in z a) * r / 4398046511104) -ℤ pos 262144))
+      ≡ shr_z z L
   quotient_floors = held floored floored-fits
 
 -- ---- how large an estimate may be

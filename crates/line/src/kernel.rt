@@ -9,7 +9,7 @@ use numbers::widen_u8;
 use raster::border::LineBorderMode;
 
 // What a line filter does to each line.
-#[derive(Drop)]
+#[derive(Clone, Copy)]
 pub struct LineKernel {
     // Up to twice the longest side and 1.
     pub blur_length: usize,

@@ -8,7 +8,7 @@ use numbers::{floor_div, narrow_i64, signed};
 use raster::border::LineBorderMode;
 
 // A line's mean: its settings, with the reciprocal of the length, or 0 for a division by it.
-#[derive(Drop)]
+#[derive(Clone, Copy)]
 pub struct MeanSettings {
     pub n: usize,
     pub blur_length: usize,

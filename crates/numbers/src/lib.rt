@@ -1,4 +1,6 @@
 // Scalar functions that the other crates share, each with its contract on ℕ or ℤ.
+#![tactic(auto)]
+
 ghost use Rattle.std.specs.Prelude.{◌≡◌, ◌<◌, ◌^◌, min, max, pos, nat_abs, ◌<ℤ◌};
 ghost use Rattle.std.specs.Int.Signed.{shr_z};
 ghost use Rattle.numbers.specs.Scalar.{clamp_byte};

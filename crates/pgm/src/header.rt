@@ -9,20 +9,20 @@ use image::Gray8View;
 use numbers::min_usize;
 
 // A number, cut to `MOST`, and the place behind it.
-#[derive(Drop)]
+#[derive(Clone, Copy)]
 pub(crate) struct Number {
     value: usize,
     end: usize,
 }
 
-#[derive(Drop)]
+#[derive(Clone, Copy)]
 pub(crate) enum Field {
     Number(Number),
     Missing,
 }
 
 // The numbers, cut to `MOST`, and the place of the first pixel.
-#[derive(Drop)]
+#[derive(Clone, Copy)]
 pub(crate) struct Header {
     width: usize,
     height: usize,
@@ -30,7 +30,7 @@ pub(crate) struct Header {
     start: usize,
 }
 
-#[derive(Drop)]
+#[derive(Clone, Copy)]
 pub(crate) enum HeaderAnswer {
     Header(Header),
     Broken,

@@ -1,4 +1,6 @@
 // Pictures as Netpbm's P5, one a file (document 02, K3).
+#![tactic(auto)]
+
 ghost use Rattle.std.specs.Prelude.{◌≡◌};
 ghost use Rattle.image.specs.Call.{gray8};
 ghost use Rattle.pgm.specs.Read.{read_decision, read_answer, pixels_part};
@@ -11,20 +13,20 @@ mod header;
 mod lines;
 
 // The picture in a file: its sides, and the place of its first pixel. The pixels are tight and end the file.
-#[derive(Drop)]
+#[derive(Clone, Copy)]
 pub struct PgmPicture {
     pub width: usize,
     pub height: usize,
     pub start: usize,
 }
 
-#[derive(Drop)]
+#[derive(Clone, Copy)]
 pub enum PgmAnswer {
     Picture(PgmPicture),
     Refused(u8),
 }
 
-#[derive(Drop)]
+#[derive(Clone, Copy)]
 pub enum WriteAnswer {
     // How many bytes were written.
     Written(usize),

@@ -58,7 +58,7 @@ pub(crate) fn put_header(width: usize, height: usize, out: &mut [u8])
     ensures { out.new
         ≡ header_lines width height ++ drop (length (header_lines width height)) out.old }
 {
-    bytes::copy(b"P5\n", out);
+    out[..3].copy_from_slice(b"P5\n");
     let second = put_number(width, 3, out);
     let third = put_number(height, second, out);
     put_number(255, third, out);

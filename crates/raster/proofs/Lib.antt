@@ -5,5 +5,7 @@ pub mod BorderMap
 pub mod Codes
 pub mod LastAngle
 pub mod Place
+pub mod Rest
+pub mod RestFloats
 pub mod Scatter
 pub mod Snapped

@@ -26,9 +26,9 @@ degrees_finite (fin s m e') e = refl
 -- ---- the answer, by the degrees alone
 
 module _ (angle : Float) where
-  pub is_found : finite (in_degrees angle) ≡ true → from_angle angle ≡ Found (nearest_to (in_degrees angle))
+  pub found_nearest : finite (in_degrees angle) ≡ true → from_angle angle ≡ Found (nearest_to (in_degrees angle))
   unfolding from_angle
-  is_found e = rw (degrees_finite angle e, e)
+  found_nearest e = rw (degrees_finite angle e, e)
 
   pub is_nothing : finite (in_degrees angle) ≡ false → from_angle angle ≡ Nothing
   unfolding from_angle
@@ -37,7 +37,7 @@ module _ (angle : Float) where
 
   -- "either a direction or that there is none", by the degrees
   pub by_degrees : is_found (from_angle angle) ≡ finite (in_degrees angle)
-  by_degrees = ⊎_elim (λ e. ap is_found (is_found e) ∙ sym e) (λ e. ap is_found (is_nothing e) ∙ sym e)
+  by_degrees = ⊎_elim (λ e. ap is_found (found_nearest e) ∙ sym e) (λ e. ap is_found (is_nothing e) ∙ sym e)
       (bool_cases (finite (in_degrees angle)))
 
   pub found_iff : (is_found (from_angle angle) ≡ true) ↔ (finite (in_degrees angle) ≡ true)
@@ -61,7 +61,7 @@ module _ (angle : Float) where
 
   pub as_before : (d : RasterDirection4) → from_angle angle ≡ Found d → d ≡ direction_before angle
   unfolding direction_before half_turn_before rest_before nearest_to half_turn signed_rest in_degrees
-  as_before d e = found_same (sym e ∙ is_found (found_iff.0 (ap is_found e)))
+  as_before d e = found_same (sym e ∙ found_nearest (found_iff.0 (ap is_found e)))
 
   pub same_as_before : finite (in_degrees angle) ≡ true → from_angle angle ≡ Found (direction_before angle)
-  same_as_before e = is_found e ∙ ap Found (as_before _ (is_found e))
+  same_as_before e = found_nearest e ∙ ap Found (as_before _ (found_nearest e))

@@ -6,7 +6,7 @@ ghost use Rattle.raster.specs.Border.{border_code, border_value, border_from, is
 ghost use Rattle.raster.specs.Border.{border_map, constant, modℤ, nearer, reflected};
 
 // What stands outside a line.
-#[derive(Drop)]
+#[derive(Clone, Copy)]
 pub enum LineBorderMode {
     // The nearer end of the line.
     Replicate,
@@ -65,7 +65,7 @@ impl LineBorderMode {
 }
 
 // Where a sample comes from: a place of the line, or a value outside it.
-#[derive(Drop)]
+#[derive(Clone, Copy)]
 pub enum BorderSample {
     Inside(usize),
     Outside(u8),

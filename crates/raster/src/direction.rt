@@ -1,9 +1,10 @@
 // The four directions of a line, and the one nearest to an angle.
-ghost use Rattle.std.specs.Prelude.{◌≡◌};
-ghost use Rattle.raster.specs.Direction.{step_of, direction_index, direction_from, half_turn, nearest, nearest_to};
+ghost use Rattle.std.specs.Prelude.{◌≡◌, ◌/◌, ◌%◌, T};
+ghost use Rattle.std.specs.Float.Ieee.Positive.{positive, num, den};
+ghost use Rattle.raster.specs.Direction.{step_of, direction_index, direction_from, signed_rest, half_turn, nearest, nearest_to};
 ghost use Rattle.raster.specs.Direction.{from_angle, is_found};
 
-#[derive(Drop)]
+#[derive(Clone, Copy)]
 pub enum RasterDirection4 {
     Horizontal,
     DownRight,
@@ -12,24 +13,66 @@ pub enum RasterDirection4 {
 }
 
 // Columns and rows from one place of a line to the next.
-#[derive(Drop)]
+#[derive(Clone, Copy)]
 pub struct RasterStep {
     pub dx: i64,
     pub dy: i64,
 }
 
 // The direction nearest to an angle, or that the angle has none.
-#[derive(Drop)]
+#[derive(Clone, Copy)]
 pub enum SnappedDirection {
     Found(RasterDirection4),
     Nothing,
+}
+
+// The rest of x's whole part by 180. From 2^53 on a double is an even whole number, so its half is one too.
+fn whole_rest(x: f64) -> u64
+    requires { T (positive x) }
+    ensures { result ≡ num x / den x % 180 }
+{
+    if x < 9007199254740992.0 {
+        return std::num::truncating_f64_to_u64(x) % 180;
+    }
+    let half = whole_rest(x * 0.5);
+    half * 2 % 180
+}
+
+// The part of x after its whole part. Below 2^53 the difference is exact.
+fn rest_of_size(x: f64) -> f64
+    requires { T (positive x) }
+    ensures { result ≡ signed_rest x }
+{
+    let rest = whole_rest(x);
+    if x < 9007199254740992.0 {
+        let whole = std::num::truncating_f64_to_u64(x);
+        return rest as f64 + (x - whole as f64);
+    }
+    rest as f64
+}
+
+// The rest by a half turn, exactly and with the sign of the degrees. `%` on doubles is C's `fmod`, which not every
+// machine's library has under the name that programs are linked to.
+fn rest_of(degrees: f64) -> f64
+    ensures { result ≡ signed_rest degrees }
+{
+    if !floats::is_finite(degrees) {
+        return 0.0 / 0.0;
+    }
+    if degrees == 0.0 {
+        return degrees;
+    }
+    if degrees < 0.0 {
+        return -rest_of_size(-degrees);
+    }
+    rest_of_size(degrees)
 }
 
 // Degrees, taken modulo a half turn.
 fn half_turn(degrees: f64) -> f64
     ensures { result ≡ half_turn degrees }
 {
-    let rest = degrees % 180.0;
+    let rest = rest_of(degrees);
     if rest < 0.0 {
         return rest + 180.0;
     }

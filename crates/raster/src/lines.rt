@@ -6,7 +6,7 @@ use crate::direction::RasterDirection4;
 use numbers::min_usize;
 
 // A line's first pixel and the number of its pixels.
-#[derive(Drop)]
+#[derive(Clone, Copy)]
 pub struct ScanLine {
     pub col: usize,
     pub row: usize,

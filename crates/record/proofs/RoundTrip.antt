@@ -193,9 +193,9 @@ record_fields_lem r f h = go (filter_q r.filter) refl
 never_read : (r : Record) → answer.Refused 13 ≡ answer.Record r → ⊥
 never_read r e = let z : ◌≡◌ {A = ℕ} 0 1 = cc in omega arith
 
-to_write : (r : Record) (old : List ℕ) (f : Fields) → to_write r old ≡ Legal f → record_fields r ≡ Legal f
+to_write-legal : (r : Record) (old : List ℕ) (f : Fields) → to_write r old ≡ Legal f → record_fields r ≡ Legal f
 unfolding to_write
-to_write r old f e = by_test (eqb (length old) 32) (λ l. rw l at e) (λ l. absurd (never_legal f (rw l at e)))
+to_write-legal r old f e = by_test (eqb (length old) 32) (λ l. rw l at e) (λ l. absurd (never_legal f (rw l at e)))
 
 -- what is written reads as the same record
 pub read_written : (r : Record) (old new : List ℕ) → Held r → Wrote r old new 0 → read_record new ≡ answer.Record r
@@ -211,7 +211,7 @@ read_written r old new h w = go (to_write r old) refl w.answers w.bytes
 
     go : (z : FieldsAnswer) → to_write r old ≡ z → 0 ≡ write_number z → new ≡ write_bytes z old
         → read_record new ≡ answer.Record r
-    go (Legal f) e a b = rw b (legally f (to_write r old f e))
+    go (Legal f) e a b = rw b (legally f (to_write-legal r old f e))
     go Broken e a b = absurd (omega (arith, a))
 
 -- what reads as a record is 32 bytes of fields that do

@@ -6,14 +6,14 @@ ghost use Rattle.record.specs.Fields.{decoded_head, decoded, head_bytes, count_b
 use crate::bytes::{number_at, put_number};
 
 // What every record has, whatever its filter.
-#[derive(Drop)]
+#[derive(Clone, Copy)]
 pub(crate) struct Head {
     pub(crate) width: u16,
     pub(crate) height: u16,
     pub(crate) filter: u8,
 }
 
-#[derive(Drop)]
+#[derive(Clone, Copy)]
 pub(crate) struct Fields {
     pub(crate) head: Head,
     pub(crate) direction: u8,

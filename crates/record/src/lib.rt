@@ -1,4 +1,6 @@
 // The 32-byte record: what a job asks for, and what a result adds.
+#![tactic(auto)]
+
 mod bytes;
 mod fields;
 mod limits;
@@ -17,7 +19,7 @@ use raster::border::LineBorderMode;
 use raster::direction::RasterDirection4;
 
 // A filter with its factor; the binomial has none.
-#[derive(Drop)]
+#[derive(Clone, Copy)]
 pub enum RecordFilter {
     // Restoration by what is measured in the picture; its record has length 0.
     WholeJob(f64),
@@ -52,7 +54,7 @@ impl RecordFilter {
     }
 }
 
-#[derive(Drop)]
+#[derive(Clone, Copy)]
 pub struct Record {
     pub width: u16,
     pub height: u16,
@@ -65,21 +67,21 @@ pub struct Record {
     pub estimate: f64,
 }
 
-#[derive(Drop)]
+#[derive(Clone, Copy)]
 pub enum ReadAnswer {
     Record(Record),
     Refused(u8),
 }
 
 // A record's fields, or that they break its layout.
-#[derive(Drop)]
+#[derive(Clone, Copy)]
 enum FieldsAnswer {
     Legal(Fields),
     Broken,
 }
 
 // The filter that a record's fields name, or that its number is no filter's.
-#[derive(Drop)]
+#[derive(Clone, Copy)]
 enum NamedFilter {
     Known(RecordFilter),
     Unknown,

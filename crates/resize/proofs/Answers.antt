@@ -3,6 +3,6 @@ use mathlib.Core.Path.{◌≡◌, refl}
 use Rattle.image.specs.Call.{Decision, accepts, refuses}
 use Rattle.resize.specs.Call.{resize_answer, decision_of}
 
-pub decision-told : (d : Decision (Unit {0})) → decision_of (resize_answer d) ≡ d
-decision-told (accepts tt) = refl
-decision-told (refuses number) = refl
+pub decision_told : (d : Decision (Unit {0})) → decision_of (resize_answer d) ≡ d
+decision_told (accepts tt) = refl
+decision_told (refuses number) = refl

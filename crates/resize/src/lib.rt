@@ -1,4 +1,6 @@
 // Half-size pictures: each pixel the mean of two by two, once or as many times as stated.
+#![tactic(auto)]
+
 ghost use Rattle.std.specs.Prelude.{◌≡◌};
 ghost use Rattle.image.specs.Call.{gray8};
 ghost use Rattle.resize.specs.Call.{BoxHalved, Halved, answer_number};
@@ -9,7 +11,7 @@ mod times;
 
 pub use refusal::MAX_HALVINGS;
 
-#[derive(Drop)]
+#[derive(Clone, Copy)]
 pub enum ResizeAnswer {
     Done,
     Refused(u8),

@@ -74,13 +74,13 @@ row_sums_lem xs w h s old new b P x y p q =
 -- ---- the second pass
 
 module _ (px : ℕ → ℕ → ℕ) (w h : ℕ) (sums : List ℕ) (R : RowSums px w h sums) where
-  abbrev sums_row : ℕ → List ℕ
-  sums_row t = take w (drop (t * w) sums)
+  abbrev row_of_sums : ℕ → List ℕ
+  row_of_sums t = take w (drop (t * w) sums)
 
-  pub sums_at : (t x : ℕ) → t < h → x < w → get_or (sums_row t) x 0 ≡ tap_sum (λ c. px c t) w x
+  pub sums_at : (t x : ℕ) → t < h → x < w → get_or (row_of_sums t) x 0 ≡ tap_sum (λ c. px c t) w x
   sums_at t x b d = get_d_part (t * w) w sums x 0 d ∙ R x t d b
 
-  pub sums_row : w * h ≤ length sums → ((c r : ℕ) → c < w → r < h → px c r ≤ 255) → (t : ℕ) → t < h → Sums w (sums_row t)
+  pub sums_row : w * h ≤ length sums → ((c r : ℕ) → c < w → r < h → px c r ≤ 255) → (t : ℕ) → t < h → Sums w (row_of_sums t)
   sums_row fits bytes t b =
       record {
         long = length_part (t * w) w sums (omega (arith, row_end_within w h t b));
@@ -89,18 +89,18 @@ module _ (px : ℕ → ℕ → ℕ) (w h : ℕ) (sums : List ℕ) (R : RowSums p
 
   -- five rows of sums, weighed
   pub down_is : (x y : ℕ) → x < w → y < h
-      → weighed (get_or (sums_row (tap_place h y 0)) x 0) (get_or (sums_row (tap_place h y 1)) x 0)
-      (get_or (sums_row (tap_place h y 2)) x 0) (get_or (sums_row (tap_place h y 3)) x 0)
-      (get_or (sums_row (tap_place h y 4)) x 0) ≡ binomial_sum px w h x y
+      → weighed (get_or (row_of_sums (tap_place h y 0)) x 0) (get_or (row_of_sums (tap_place h y 1)) x 0)
+      (get_or (row_of_sums (tap_place h y 2)) x 0) (get_or (row_of_sums (tap_place h y 3)) x 0)
+      (get_or (row_of_sums (tap_place h y 4)) x 0) ≡ binomial_sum px w h x y
   down_is x y b d =
       rw (at 0, at 1, at 2, at 3, at 4) (sym (tap_sum_is (λ r. tap_sum (λ c. px c r) w x) h y) ∙ two_passes px w h x y)
     where
-      at : (i : ℕ) → get_or (sums_row (tap_place h y i)) x 0 ≡ tap_sum (λ c. px c (tap_place h y i)) w x
+      at : (i : ℕ) → get_or (row_of_sums (tap_place h y i)) x 0 ≡ tap_sum (λ c. px c (tap_place h y i)) w x
       at i = sums_at (tap_place h y i) x (tap_lt h y i d) b
 
   -- a pixel of the destination, from a row of the source and the rows a to e
-  pub sharp_is : (row a b c d e : List ℕ) (y : ℕ) → y < h → a ≡ sums_row (tap_place h y 0) → b ≡ sums_row (tap_place h y 1)
-      → c ≡ sums_row (tap_place h y 2) → d ≡ sums_row (tap_place h y 3) → e ≡ sums_row (tap_place h y 4) → (x : ℕ)
+  pub sharp_is : (row a b c d e : List ℕ) (y : ℕ) → y < h → a ≡ row_of_sums (tap_place h y 0) → b ≡ row_of_sums (tap_place h y 1)
+      → c ≡ row_of_sums (tap_place h y 2) → d ≡ row_of_sums (tap_place h y 3) → e ≡ row_of_sums (tap_place h y 4) → (x : ℕ)
       → x < w → get_or row x 0 ≡ px x y
       → sharper_at row a b c d e x ≡ unsharp px w h x y
   sharp_is row a b c d e y l ea eb ec ed ee x k ep =

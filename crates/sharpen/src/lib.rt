@@ -1,11 +1,13 @@
 // The binomial unsharp: 2 × pixel − blur, with weights 1 4 6 4 1 both ways.
+#![tactic(auto)]
+
 ghost use Rattle.std.specs.Prelude.{◌≡◌};
 ghost use Rattle.image.specs.Call.{gray8};
 ghost use Rattle.sharpen.specs.Call.{Sharpened, answer_number};
 
 mod kernel;
 
-#[derive(Drop)]
+#[derive(Clone, Copy)]
 pub enum SharpenAnswer {
     Done,
     Refused(u8),

@@ -1,36 +1,63 @@
 // The program: `job.rec` and `picture.raw` of the folder that it is run in, and what they give to standard output. All
 // but the reading and writing is `smear_run::run`.
-ghost use Rattle.io.specs.Counts.{IsPrefixLen};
+#![tactic(auto)]
 
-use libc::STDOUT_FILENO;
+ghost use Rattle.std.specs.Prelude.{◌≡◌, ◌≤◌, length, take};
+
 use smear_run::{MOST_PIXELS, MOST_PRINTED, RunAnswer};
+use std::fs::File;
+use std::io;
+use std::io::{Read, Write};
+use std::rt::Files;
+
+// Reads until the slice is full, the input ends or a read fails; how many bytes are read, which stand in front.
+fn read_full<R: Read>(input: &mut R, bytes: &mut [u8]) -> usize
+    ensures within { result ≤ length bytes.new }
+    ensures front { result ≡ length (take result bytes.new) }
+{
+    let mut done: usize = 0;
+    while done < bytes.len() {
+        match input.read(&mut bytes[done..]) {
+            Ok(0) => return done,
+            Ok(n) => done += n,
+            Err(_) => return done,
+        }
+    }
+    done
+}
 
 // As much of the file as the slice holds, and how much that is. A file that is missing counts as empty, and so does a
 // folder, of which nothing can be read.
-fn read_file(path: &[u8], bytes: &mut [u8]) -> usize
-    ensures { IsPrefixLen result bytes.new }
+fn read_file<R: Files>(rt: &R, path: &str, bytes: &mut [u8]) -> usize
+    ensures within { result ≤ length bytes.new }
+    ensures front { result ≡ length (take result bytes.new) }
 {
-    let fd = os::open_read(path);
-    if fd < 0 {
-        return 0;
+    match File::open(rt, path) {
+        Ok(file) => {
+            let mut input = file;
+            read_full(&mut input, bytes)
+        }
+        Err(_) => 0,
     }
-    let n = io::read_full(fd, bytes);
-    libc::close(fd);
-    n
 }
 
 // A record has 32 bytes, so that 33 tell a longer file; a picture that is not too large has at most `MOST_PIXELS`. On
-// the stack: 8,257 bytes here, and what `smear_run::run` owns.
-fn main() {
+// the stack: 8,257 bytes here, and what `smear_run::run` owns. Where standard output takes nothing, the program ends
+// as where it does.
+fn main(rt: HostRuntime) {
     let mut job = [0u8; 33];
     let mut picture = [0u8; MOST_PIXELS];
     let mut out = [0u8; MOST_PRINTED];
-    let job_len = read_file(b"job.rec", &mut job);
-    let picture_len = read_file(b"picture.raw", &mut picture);
+    let job_len = read_file(&rt, "job.rec", &mut job);
+    let picture_len = read_file(&rt, "picture.raw", &mut picture);
     let answer = smear_run::run(&job[..job_len], &picture[..picture_len], &mut out);
     match answer {
         RunAnswer::Written(n) => {
-            io::write_all(STDOUT_FILENO, &out[..n]);
+            let mut to = io::writer(&rt);
+            match to.write_all(&out[..n]) {
+                Ok(()) => {}
+                Err(_) => {}
+            }
         }
         // Never: MOST_PRINTED is room for all that is printed (smear_run/proofs/Most).
         RunAnswer::Refused(_) => {}

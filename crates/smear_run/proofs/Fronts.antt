@@ -20,7 +20,7 @@ module _ (xs old : List ℕ) where
       → Put xs old new (Written n)
   put_whole {new} h e w = outcome_accepted run_answer FrontWrites old tt xs new tt (room_whole 10 xs h) (ap Written e) w
 
-  -- what `bytes::copy` leaves
+  -- what a copy of the whole list leaves
   pub put_copied : {new : List ℕ} {n : ℕ} → length xs ≤ length old → n ≡ length xs
       → new ≡ take (length xs) xs ++ drop (length xs) old → Put xs old new (Written n)
   put_copied h e w = put_whole h e (w ∙ ap (λ (ys : List ℕ). ys ++ drop (length xs) old) (take-length xs))

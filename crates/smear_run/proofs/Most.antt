@@ -17,7 +17,7 @@ use Rattle.record.specs.declared.ReadAnswer.TheVariants as read
 use Rattle.record.proofs.Answer.{record_bytes_most}
 use Rattle.smear_run.specs.Stage.{Made, stage}
 use Rattle.smear_run.specs.Output.{refused_text, printed, job_output, output_of, output}
-use Rattle.smear_run.proofs.Printed.{no_job, too_large, of_stage}
+use Rattle.smear_run.proofs.Printed.{no_job, of_large, of_stage}
 
 text_most : (n : ℕ) → length (refused_text n) ≤ 4128
 unfolding refused_text
@@ -40,7 +40,7 @@ job_most : (r : Record) (picture : List ℕ) → length (job_output r picture) �
 job_most r picture =
     by_test (is_job r)
     (λ j.
-    by_test (ltb 4096 (r.width * r.height)) (λ t. rw (too_large r picture j (ltb-true 4096 _ t)) (lit≤ tt))
+    by_test (ltb 4096 (r.width * r.height)) (λ t. rw (of_large r picture j (ltb-true 4096 _ t)) (lit≤ tt))
     (λ t. let h = ltb-false 4096 (r.width * r.height) t in rw (of_stage r picture j h)
     (printed_most r (stage r picture) h)))
     (λ j. rw (no_job r picture j) (text_most 13))

@@ -20,9 +20,9 @@ module _ (r : Record) (picture : List ℕ) where
   unfolding job_output
   no_job e = rw e
 
-  pub too_large : is_job r ≡ true → 4096 < r.width * r.height → job_output r picture ≡ too_large
+  pub of_large : is_job r ≡ true → 4096 < r.width * r.height → job_output r picture ≡ too_large
   unfolding job_output
-  too_large e h = rw (e, lt-ltb 4096 (r.width * r.height) h)
+  of_large e h = rw (e, lt-ltb 4096 (r.width * r.height) h)
 
   pub of_stage : is_job r ≡ true → r.width * r.height ≤ 4096 → job_output r picture ≡ printed r (stage r picture)
   unfolding job_output

@@ -56,7 +56,7 @@ use Rattle.smear_run.specs.Stage.{
 use Rattle.smear_run.specs.Output.{then_record, printed, job_output, output_of, output}
 use Rattle.smear_run.specs.Output.{Whole, run_decision, Ran}
 use Rattle.smear_run.specs.declared.RunAnswer.{RunAnswer}
-use Rattle.smear_run.proofs.Printed.{no_job, too_large, of_stage}
+use Rattle.smear_run.proofs.Printed.{no_job, of_large, of_stage}
 
 -- ---- two runs that print the same, whatever the slices that they write to held
 
@@ -178,7 +178,7 @@ module _ (job picture extra : List ℕ) (whole : Whole job picture) where
     where
       large : (r : Record) → is_job r ≡ true → most_pixels < r.width * r.height
           → job_output r (picture ++ extra) ≡ job_output r picture
-      large r is_job_holds many = too_large r (picture ++ extra) is_job_holds many ∙ sym (too_large r picture is_job_holds many)
+      large r is_job_holds many = of_large r (picture ++ extra) is_job_holds many ∙ sym (of_large r picture is_job_holds many)
 
       small : (r : Record) → read_record job ≡ read.Record r → is_job r ≡ true → r.width * r.height ≤ most_pixels
           → job_output r (picture ++ extra) ≡ job_output r picture

@@ -12,7 +12,7 @@ use raster::direction::RasterDirection4;
 use record::{Record, RecordFilter};
 use sharpen::SharpenAnswer;
 
-#[derive(Drop)]
+#[derive(Clone, Copy)]
 pub(crate) enum FilterAnswer {
     // The result's record.
     Done(Record),

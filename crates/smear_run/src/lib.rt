@@ -1,4 +1,6 @@
 // The program's work on slices: a job's record and a picture in, what is printed out.
+#![tactic(auto)]
+
 ghost use Rattle.smear_run.specs.Output.{Ran};
 
 use crate::output::run_record;
@@ -20,7 +22,7 @@ pub const MOST_PRINTED: usize = MOST_PIXELS + 32;
 // How many i32 a line filter asks for at most.
 const LINE_SCRATCH: usize = 3 * Gray8View::MAX_SIDE;
 
-#[derive(Drop)]
+#[derive(Clone, Copy)]
 pub enum RunAnswer {
     // How many bytes are printed.
     Written(usize),

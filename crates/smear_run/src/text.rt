@@ -10,7 +10,8 @@ fn put_text(text: &[u8], out: &mut [u8]) -> RunAnswer
     if out.len() < text.len() {
         return RunAnswer::Refused(10);
     }
-    RunAnswer::Written(bytes::copy(text, out))
+    out[..text.len()].copy_from_slice(text);
+    RunAnswer::Written(text.len())
 }
 
 pub(crate) fn put_too_large(out: &mut [u8]) -> RunAnswer

@@ -12,7 +12,6 @@ use lib.ListN.{length, take, drop, get_or, length-take, length-drop}
 use Rattle.numbers.proofs.Test.{by_test, false_not_true}
 use Rattle.raster.specs.declared.direction.RasterDirection4.{RasterDirection4}
 use Rattle.record.specs.Record.{read_record}
-use Rattle.record.specs.declared.Record.{Record}
 use Rattle.record.specs.declared.ReadAnswer.{ReadAnswer}
 use Rattle.record.specs.declared.ReadAnswer.TheVariants as read
 use Rattle.record.proofs.Answer.{read_short}

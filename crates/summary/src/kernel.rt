@@ -11,7 +11,7 @@ use raster::direction::RasterDirection4;
 use record::{ReadAnswer, Record};
 
 // The blur lengths along a direction.
-#[derive(Drop)]
+#[derive(Clone, Copy)]
 pub struct Lengths {
     pub count: u64,
     pub total: u64,
@@ -19,7 +19,7 @@ pub struct Lengths {
 }
 
 // What a sheet is made of, after `records` of them.
-#[derive(Drop)]
+#[derive(Clone, Copy)]
 pub struct Tally {
     pub records: usize,
     pub horizontal: Lengths,
@@ -30,7 +30,7 @@ pub struct Tally {
 }
 
 // The tally, or 13 and the index of the first fault.
-#[derive(Drop)]
+#[derive(Clone, Copy)]
 pub enum TallyAnswer {
     Tally(Tally),
     Refused(u8, usize),

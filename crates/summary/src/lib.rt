@@ -1,4 +1,6 @@
 // The round sheet of smears: what a file of result records says of each direction (document 02, K1).
+#![tactic(auto)]
+
 pub mod kernel;
 
 ghost use Rattle.std.specs.Prelude.{◌≡◌};
@@ -7,7 +9,7 @@ ghost use Rattle.summary.specs.File.{summarized};
 use kernel::{Tally, TallyAnswer};
 
 // The blur lengths along a direction; the mean is whole part and remainder over the count. All 0 for none.
-#[derive(Drop)]
+#[derive(Clone, Copy)]
 pub struct DirectionSummary {
     pub count: u64,
     pub total: u64,
@@ -16,7 +18,7 @@ pub struct DirectionSummary {
     pub remainder: u64,
 }
 
-#[derive(Drop)]
+#[derive(Clone, Copy)]
 pub struct RecordSummary {
     pub horizontal: DirectionSummary,
     pub down_right: DirectionSummary,
@@ -26,7 +28,7 @@ pub struct RecordSummary {
 }
 
 // The sheet, or 13 and the index of the first fault.
-#[derive(Drop)]
+#[derive(Clone, Copy)]
 pub enum SummaryAnswer {
     Summary(RecordSummary),
     Refused(u8, usize),

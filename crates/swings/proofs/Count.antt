@@ -21,14 +21,12 @@ use Rattle.swings.proofs.LineSwings.{swings_short, line_swings_holds}
 
 -- ---- runs
 last_count : (a : ℕ) (slope : Slope) (i : ℕ) → length (last_run a slope i) ≤ 1
-unfolding length
 last_count a Level i = zero-le
 last_count a Rising i = le_refl 1
 last_count a Falling i = le_refl 1
 
 pick_count : (t : Bool) (r : Run) (turned longer : List Run) (k : ℕ) → length turned ≤ suc k → length longer ≤ suc k
     → length (cond t (r ∷ turned) longer) ≤ suc (suc k)
-unfolding length
 pick_count true r turned longer k h g = omega arith
 pick_count false r turned longer k h g = omega arith
 
@@ -43,7 +41,6 @@ runs_from_count x a slope i (suc k) =
     (runs_from_count x a (onward_from slope (slope_between (x i) (x (suc i)))) (suc i) k)
 
 pub runs_count : (x : ℕ → ℕ) (last a : ℕ) → length (runs_up_to x last a) ≤ last - a
-unfolding length
 runs_count x last a = go (dec_lt a last)
   where
     go : Dec (a < last) → length (runs_up_to x last a) ≤ last - a
@@ -53,20 +50,18 @@ runs_count x last a = go (dec_lt a last)
 
 -- ---- swings
 rise_count : (pixel : Float) (r : Rise) (others : List Swing) → length (with_rise pixel r others) ≤ suc (length others)
-unfolding length
 rise_count pixel (Found s) others = le_refl (suc (length others))
 rise_count pixel Nothing others = omega arith
 
 pub swings_count : (least : ℕ) (pixel : Float) (x : ℕ → ℕ) (rs : List Run)
     → length (swings_of least pixel x rs) ≤ length rs
-unfolding length swings_of
+unfolding swings_of
 swings_count least pixel x [] = zero-le
 swings_count least pixel x (r ∷ rs) =
     le_trans (rise_count pixel (rise_of least x r.first r.last) (swings_of least pixel x rs))
     (omega (arith, swings_count least pixel x rs))
 
 pub line_count : (least : ℕ) (pixel : Float) (x : ℕ → ℕ) (n a : ℕ) → length (line_swings least pixel x n a) ≤ n - 1
-unfolding length
 line_count least pixel x n a = go (dec_lt n 3)
   where
     go : Dec (n < 3) → length (line_swings least pixel x n a) ≤ n - 1
@@ -77,7 +72,7 @@ line_count least pixel x n a = go (dec_lt n 3)
 -- S k is at least as many as the first k lines have samples, if it is so from line to line
 pub picture_count : (least : ℕ) (pixel : Float) (lines : Lines) (S : ℕ → ℕ) → ((k : ℕ) → S k + lines.len k ≤ S (suc k))
     → (k a j : ℕ) → S k + length (swings_from least pixel lines k a j) ≤ S (k + j)
-unfolding length swings_from
+unfolding swings_from
 picture_count least pixel lines S grows k a zero = rw (add-zero k) (omega arith)
 picture_count least pixel lines S grows k a (suc j) =
     rw (

@@ -1,5 +1,5 @@
 -- The state of the loop of `fill`: `while o.found { list[o.at] = o.swing; o = next(o.next); }`, from `begun` on.
--- `Real o` is what else is known of each answer. Assumes nothing.
+-- Assumes nothing.
 use mathlib.Core.Path.{◌≡◌, refl, sym, ◌∙◌, ap, subst}
 use mathlib.Core.Bool.{Bool, true, false, cond, true≢false}
 use mathlib.Core.List.{List, [], ◌∷◌, ◌++◌, append_assoc, append-nil}
@@ -29,15 +29,17 @@ module _ {X : Type 0} where
   take_more [] (y ∷ l) x h e = refl
   take_more (z ∷ p) (y ∷ l) x h e = (λ i. get_or (e i) 0 z ∷ take_more p l x (omega arith) (ap (drop 1) e) i)
 
-module _ (Real : Scanned → Type 0) (bytes : List ℕ) (c : ScanPlan) (ys : List Swing) where
+-- how many turns are left
+abbrev pub left : List ℕ → ScanPlan → Scanned → ℕ
+left bytes c o = cond o.found (suc (length (rest bytes c o.next))) 0
+
+module _ (bytes : List ℕ) (c : ScanPlan) (ys : List Swing) where
   abbrev all : List Swing
   all = rest bytes c begun.next
 
-  pub record At : Type 0 where
-    pub out : Scanned
-    pub list : List Swing
+  -- `past` are the swings so far, with the one of this answer
+  pub record At (out : Scanned) (list : List Swing) : Type 0 where
     pub past : List Swing
-    pub real : Real out
     pub whole : past ++ rest bytes c out.next ≡ all
     pub counted : out.next.count ≡ length past
     pub top : out.next.strongest ≡ strongest past
@@ -48,12 +50,9 @@ module _ (Real : Scanned → Type 0) (bytes : List ℕ) (c : ScanPlan) (ys : Lis
     pub stored : take (length past) (cond out.found (set list out.at out.swing) list) ≡ past
     pub ended : out.found ≡ false → (rest bytes c out.next ≡ []) × Bytes bytes
 
-  abbrev pub starts : Real begun → At
-  starts is = record {
-    out = begun;
-    list = ys;
+  pub starts : At begun ys
+  starts = record {
     past = [];
-    real = is;
     whole = refl;
     counted = refl;
     top = refl;
@@ -70,20 +69,17 @@ module _ (Real : Scanned → Type 0) (bytes : List ℕ) (c : ScanPlan) (ys : Lis
     ended = λ e. absurd (true≢false e);
   }
 
-  abbrev pub left : Scanned → ℕ
-  left o = cond o.found (suc (length (rest bytes c o.next))) 0
+  module _ (out : Scanned) (list : List Swing) (t : At out list) where
+    sizes : length t.past + length (rest bytes c out.next) ≡ length all
+    sizes = sym (length-append t.past (rest bytes c out.next)) ∙ ap length t.whole
 
-  module _ (t : At) where
-    sizes : length t.past + length (rest bytes c t.out.next) ≡ length all
-    sizes = sym (length-append t.past (rest bytes c t.out.next)) ∙ ap length t.whole
-
-    pub filled : t.out.found ≡ false → Filled bytes all t.list t.out.next
+    pub filled : out.found ≡ false → Filled bytes all list out.next
     filled off =
         record {
           counted = t.counted ∙ ap length past_is;
-          listed = subst (λ (l : List Swing). take (length l) t.list ≡ l) past_is
+          listed = subst (λ (l : List Swing). take (length l) list ≡ l) past_is
               (ap (λ (b : Bool). take (length t.past)
-              (cond b (set t.list t.out.at t.out.swing) t.list)) (sym off) ∙ t.stored);
+              (cond b (set list out.at out.swing) list)) (sym off) ∙ t.stored);
           top = t.top ∙ ap strongest past_is;
           span = t.span ∙ ap span_of past_is;
           are = (t.ended off).1;
@@ -96,25 +92,24 @@ module _ (Real : Scanned → Type 0) (bytes : List ℕ) (c : ScanPlan) (ys : Lis
       pub few : length t.past ≤ length ys
       few = omega (arith, sizes)
 
-      module _ (on : t.out.found ≡ true) (some : 0 < length ys) where
-        pub within : t.out.at < length t.list
+      module _ (on : out.found ≡ true) (some : 0 < length ys) where
+        pub within : out.at < length list
         within = omega (arith, few, t.place on, t.same)
 
         abbrev onward : List Swing
-        onward = set t.list t.out.at t.out.swing
+        onward = set list out.at out.swing
 
         front : take (length t.past) onward ≡ t.past
-        front = ap (λ (b : Bool). take (length t.past) (cond b onward t.list)) (sym on) ∙ t.stored
+        front = ap (λ (b : Bool). take (length t.past) (cond b onward list)) (sym on) ∙ t.stored
 
         pub same_length : length onward ≡ length ys
-        same_length = length-set t.list t.out.at t.out.swing ∙ t.same
+        same_length = length-set list out.at out.swing ∙ t.same
 
-        module _ (r : Scanned) (says : Scans bytes c t.out.next r) where
+        module _ (r : Scanned) (says : Scans bytes c out.next r) where
           abbrev longer : Bool → List Swing
           longer b = cond b (t.past ++ (r.swing ∷ [])) t.past
 
           one_more : length (t.past ++ (r.swing ∷ [])) ≡ length t.past + 1
-          unfolding length
           one_more = length-append t.past (r.swing ∷ [])
 
           pub whole_after : (b : Bool) → r.found ≡ b → longer b ++ rest bytes c r.next ≡ all
@@ -158,21 +153,17 @@ module _ (Real : Scanned → Type 0) (bytes : List ℕ) (c : ScanPlan) (ys : Lis
           ended_after e = (ap (λ (s : Scan). rest bytes c s) (says.stops e).same ∙ (says.stops e).list, says.are)
 
           less_after : (b : Bool) → r.found ≡ b
-              → cond b (suc (length (rest bytes c r.next))) 0 < suc (length (rest bytes c t.out.next))
-          unfolding length
+              → cond b (suc (length (rest bytes c r.next))) 0 < suc (length (rest bytes c out.next))
           less_after true e = omega (arith, ap length (says.goes e).list)
           less_after false e = omega arith
 
-          pub less : left r < left t.out
-          less = subst (λ (b : Bool). left r < cond b (suc (length (rest bytes c t.out.next))) 0) (sym on)
+          pub less : left bytes c r < left bytes c out
+          less = subst (λ (b : Bool). left bytes c r < cond b (suc (length (rest bytes c out.next))) 0) (sym on)
               (less_after r.found refl)
 
-          abbrev pub after : Real r → At
-          after is = record {
-            out = r;
-            list = onward;
+          pub after : At r onward
+          after = record {
             past = longer r.found;
-            real = is;
             whole = whole_after r.found refl;
             counted = counted_after r.found refl;
             top = top_after r.found refl;

@@ -8,7 +8,6 @@ pub mod Line
 pub mod LineSwings
 pub mod Monotonic
 pub mod Opened
-pub mod PlainData
 pub mod Rise
 pub mod Runs
 pub mod RustRise

@@ -1,4 +1,6 @@
 // The swings of a picture's lines, written to the records that a caller lends (document 01, Length).
+#![tactic(auto)]
+
 pub mod kernel;
 mod rises;
 mod run;
@@ -7,7 +9,7 @@ pub mod scan;
 // What a run of a line that rises or falls far enough gives: the distance between its 20% and 80% levels, and by how
 // much it changes.
 #[repr(C)]
-#[derive(Drop)]
+#[derive(Clone, Copy)]
 pub struct Swing {
     pub width: f64,
     pub swing: i32,

@@ -8,13 +8,13 @@ ghost use Rattle.swings.specs.Line.{sample};
 use crate::Swing;
 
 // Where a run crosses a level.
-#[derive(Drop)]
+#[derive(Clone, Copy)]
 pub enum Mark {
     At(f64),
     Unset,
 }
 
-#[derive(Drop)]
+#[derive(Clone, Copy)]
 pub enum Rise {
     Found(Swing),
     Nothing,

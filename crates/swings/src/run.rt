@@ -8,7 +8,7 @@ ghost use Rattle.swings.specs.Runs.{slope_between, turns_at, slope_of, LevelTo, 
 use crate::rises::{amplitude, sample_at, swing_of};
 
 // Where a run ends. A line that does not change any more has none.
-#[derive(Drop)]
+#[derive(Clone, Copy)]
 pub enum RunEnd {
     At(usize),
     Level,

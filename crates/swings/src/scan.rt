@@ -14,7 +14,7 @@ use raster::direction::RasterDirection4;
 use raster::lines::{ScanLine, line_at};
 
 // The next swing of a line, with the sample where the next run starts.
-#[derive(Drop)]
+#[derive(Clone, Copy)]
 pub enum OnLine {
     Next(Swing, usize),
     End,
@@ -22,7 +22,7 @@ pub enum OnLine {
 
 // What is scanned: `count` lines of a picture's direction. The next place of a line stands `step` bytes on, `pixel`
 // pixels away. `refusal` is the number of a refusal, and 0 for none.
-#[derive(Drop)]
+#[derive(Clone, Copy)]
 pub struct ScanPlan {
     pub refusal: u8,
     pub direction: RasterDirection4,
@@ -37,7 +37,7 @@ pub struct ScanPlan {
 
 // A place of the scan: the current line's first byte and number of samples, the sample at which its next run starts,
 // and the number of the next line. Before the first line the current one has no samples.
-#[derive(Drop)]
+#[derive(Clone, Copy)]
 pub struct Place {
     pub start: usize,
     pub len: usize,
@@ -46,7 +46,7 @@ pub struct Place {
 }
 
 // The next swing from a place on, if one is found, and the place after it.
-#[derive(Drop)]
+#[derive(Clone, Copy)]
 pub struct NextSwing {
     pub found: bool,
     pub swing: Swing,
@@ -54,7 +54,7 @@ pub struct NextSwing {
 }
 
 // The least and the greatest of some widths.
-#[derive(Drop)]
+#[derive(Clone, Copy)]
 pub struct Span {
     pub least: f64,
     pub greatest: f64,
@@ -62,7 +62,7 @@ pub struct Span {
 
 // A scan's state: where it goes on, and of the swings stored so far the strongest, the number and the span of the
 // widths.
-#[derive(Drop)]
+#[derive(Clone, Copy)]
 pub struct Scan {
     pub place: Place,
     pub strongest: i32,
@@ -71,7 +71,7 @@ pub struct Scan {
 }
 
 // A scan's answer: a swing to be stored at index `at`, or none; and the state after it.
-#[derive(Drop)]
+#[derive(Clone, Copy)]
 pub struct Scanned {
     pub found: bool,
     pub at: usize,

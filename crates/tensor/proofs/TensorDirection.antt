@@ -51,8 +51,5 @@ pub pair_small : {A C E : ℤ} → Small A C E → nat_abs A + nat_abs E < 2 ^ 6
 pair_small s = omega (arith, s.small_a, s.small_e)
 
 module _ {A E : ℤ} (fa : SFits w64 A) (fe : SFits w64 E) where
-  pub none_asked : {C : ℤ} → Small A C E → nat_abs (to_z w64 (of_z w64 A)) + nat_abs (to_z w64 (of_z w64 E)) < 2 ^ 63
-  none_asked s = rw (to_z-of_z fa, to_z-of_z fe) (pair_small s)
-
   pub none_held : (w h : ℕ) → no_direction w h (to_z w64 (of_z w64 A)) (to_z w64 (of_z w64 E)) ≡ no_direction w h A E
   none_held w h = rw (to_z-of_z fa, to_z-of_z fe)

@@ -14,14 +14,14 @@ use numbers::abs_i64;
 use raster::direction::RasterDirection4;
 
 // Sums of products of the gradients: a of gx gx, c of gx gy, e of gy gy. Those of one row fit 32 bits.
-#[derive(Drop)]
+#[derive(Clone, Copy)]
 pub struct RowSums {
     pub a: i32,
     pub c: i32,
     pub e: i32,
 }
 
-#[derive(Drop)]
+#[derive(Clone, Copy)]
 pub struct TensorSums {
     pub a: i64,
     pub c: i64,
@@ -29,7 +29,7 @@ pub struct TensorSums {
 }
 
 // The direction, and the sums that it follows from.
-#[derive(Drop)]
+#[derive(Clone, Copy)]
 pub struct DirectionEstimate {
     pub direction: RasterDirection4,
     pub a: i64,
@@ -37,7 +37,7 @@ pub struct DirectionEstimate {
     pub e: i64,
 }
 
-#[derive(Drop)]
+#[derive(Clone, Copy)]
 pub enum DirectionAnswer {
     Direction(DirectionEstimate),
     Refused(u8),

@@ -1,4 +1,6 @@
 // The direction of a picture's smear.
+#![tactic(auto)]
+
 mod confidence;
 pub mod direction;
 

@@ -15,7 +15,7 @@ use tensor::direction::DirectionAnswer;
 use tensor::estimate_line_direction;
 
 // What a call answered, as a case has it.
-#[derive(Drop)]
+#[derive(Clone, Copy)]
 pub struct Outcome {
     pub number: u8,
     pub found: u8,

@@ -15,7 +15,7 @@
 // What a call does not have is 0.
 ghost use Rattle.std.specs.Prelude.{◌≤◌, ◌<◌};
 
-#[derive(Drop)]
+#[derive(Clone, Copy)]
 pub struct Layout {
     pub len: usize,
     pub width: usize,
@@ -23,7 +23,7 @@ pub struct Layout {
     pub stride: usize,
 }
 
-#[derive(Drop)]
+#[derive(Clone, Copy)]
 pub struct Case {
     pub call: u8,
     pub number: u8,

@@ -8,7 +8,7 @@ use blur::length::{LengthAnswer, LineLengthConfig, estimate_line_length_with};
 use swings::Swing;
 
 // The length of a picture of at most 256 pixels; `none` stands where no swing is written. Its contract says nothing of
-// the records, so whoever calls it needs no walk.
+// the records.
 pub(crate) fn length_at(
     data: &[u8],
     width: usize,

@@ -1,10 +1,14 @@
 // Replays the Rust's answers: each case of the file `rust.vec` through the stage's own calls. `oracle/vectors` makes
 // the file from the Rust original. Prints each case that fails, and last how many passed and failed.
-ghost use Rattle.std.specs.Prelude.{◌≤◌};
+#![tactic(auto)]
+
+ghost use Rattle.std.specs.Prelude.{◌≤◌, IfOk, length};
 
 use crate::calls::{agrees, call};
 use crate::case::{Case, case_in, destination_in, size_at, source_in};
-use libc::STDOUT_FILENO;
+use std::fs::File;
+use std::io;
+use std::io::Read;
 
 mod calls;
 mod case;
@@ -13,7 +17,7 @@ mod lengths;
 // Whether the call answers and writes what the case has.
 fn holds(c: Case, source: &[u8], expected: &[u8], destination: &mut [u8]) -> bool {
     let outcome = call(c, source, destination);
-    agrees(outcome, c) & check::same(destination, expected)
+    agrees(outcome, c) & (*destination == *expected)
 }
 
 // Replays one case. Its destination, which is never larger than this one, holds 165 before the call.
@@ -29,83 +33,88 @@ fn passes(bytes: &[u8]) -> bool {
 }
 
 // Prints where a case starts that fails.
-fn print_failed(at: usize, why: &[u8]) {
-    io::write_all(STDOUT_FILENO, b"the case at byte ");
-    io::print_decimal(STDOUT_FILENO, at as u64);
-    io::write_all(STDOUT_FILENO, why);
+fn print_failed(rt: &impl Print, at: usize, why: &str) -> io::Result<()> {
+    println!(rt; "the case at byte {at} {why}")
 }
 
 // How many passed and failed.
-#[derive(Drop)]
+#[derive(Clone, Copy)]
 struct Tally {
     passed: u64,
     failed: u64,
 }
 
-fn print_tally(tally: Tally) {
-    io::print_decimal(STDOUT_FILENO, tally.passed);
-    io::write_all(STDOUT_FILENO, b" passed, ");
-    io::print_decimal(STDOUT_FILENO, tally.failed);
-    io::write_all(STDOUT_FILENO, b" failed\n");
+fn print_tally(rt: &impl Print, tally: Tally) -> io::Result<()> {
+    println!(rt; "{} passed, {} failed", tally.passed, tally.failed)
 }
 
 // 1 where the case that is `bytes` passes.
-fn replay_case(bytes: &[u8], at: usize) -> u64
-    ensures { result ≤ 1 }
+fn replay_case(rt: &impl Print, bytes: &[u8], at: usize) -> io::Result<u64>
+    ensures { IfOk result (λ n. n ≤ 1) }
 {
     if passes(bytes) {
-        return 1;
+        return Ok(1);
     }
-    print_failed(at, b" fails\n");
-    0
+    print_failed(rt, at, "fails")?;
+    Ok(0)
 }
 
 // Replays the cases one after the other. One that the list's end cuts off has failed.
-fn replay(list: &[u8]) -> Tally {
+fn replay(rt: &impl Print, list: &[u8]) -> io::Result<Tally> {
     let mut passed: u64 = 0;
     let mut cases: u64 = 0;
     let mut at: usize = 0;
     while at < list.len() {
         let size = size_at(&list[at..]);
         if list.len() - at < size {
-            print_failed(at, b" is cut off\n");
-            return Tally {
+            print_failed(rt, at, "is cut off")?;
+            return Ok(Tally {
                 passed,
                 failed: cases - passed + 1,
-            };
+            });
         }
         let next = at + size;
-        passed += replay_case(&list[at..next], at);
+        passed += replay_case(rt, &list[at..next], at)?;
         cases += 1;
         at = next;
     }
-    Tally {
+    Ok(Tally {
         passed,
         failed: cases - passed,
+    })
+}
+
+// Reads until the slice is full, the input ends or a read fails; how many bytes are read, which stand in front.
+fn read_full<R: Read>(input: &mut R, bytes: &mut [u8]) -> usize
+    ensures { result ≤ length bytes.new }
+{
+    let mut done: usize = 0;
+    while done < bytes.len() {
+        match input.read(&mut bytes[done..]) {
+            Ok(0) => return done,
+            Ok(n) => done += n,
+            Err(_) => return done,
+        }
     }
+    done
 }
 
 // Replays an open file, which has at most 65,535 bytes.
-fn replay_file(file: i32) -> Tally {
-    let mut list = io::large_buffer();
-    let n = io::read_full(file, &mut list);
+fn replay_file<R: Read>(rt: &impl Print, file: &mut R) -> io::Result<Tally> {
+    let mut list = [0u8; 65536];
+    let n = read_full(file, &mut list);
     if n == 65536 {
-        io::write_all(STDOUT_FILENO, b"the list is too long\n");
-        return Tally {
+        println!(rt; "the list is too long")?;
+        return Ok(Tally {
             passed: 0,
             failed: 1,
-        };
+        });
     }
-    replay(&list[..n])
+    replay(rt, &list[..n])
 }
 
-fn main() {
-    let path = b"rust.vec";
-    let file = os::open_read(path);
-    if file < 0 {
-        os::fail(path);
-        return;
-    }
-    print_tally(replay_file(file));
-    libc::close(file);
+fn main(rt: HostRuntime) -> io::Result<()> {
+    let mut file = File::open(&rt, "rust.vec")?;
+    let tally = replay_file(&rt, &mut file)?;
+    print_tally(&rt, tally)
 }

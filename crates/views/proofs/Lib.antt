@@ -1,1 +1,1 @@
--- Nothing of its own: each function is an instance of `walks/proofs/Forward`.
+-- Nothing of its own: each function hands a view's parts to one call.

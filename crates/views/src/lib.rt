@@ -1,5 +1,7 @@
 // Each call of the stage over views, for callers who hold pictures as views. A call's contract is the core's own, at
 // the views' fields.
+#![tactic(auto)]
+
 ghost use Rattle.std.specs.Prelude.{◌≡◌};
 ghost use Rattle.blur.specs.Length.{SnappedMeasured, defaults};
 ghost use Rattle.tensor.specs.Tensor.{direction_answer, direction_decision};
@@ -77,17 +79,14 @@ pub fn van_cittert_line_into<'a, 'b>(
     ensures { Filtered (seen src.entry) (lent dst.entry) dst.exit.0.now (restoration_of config)
         scratch.old scratch.new result }
 {
+    let Gray8ViewMut {
+        data,
+        width,
+        height,
+        stride,
+    } = dst;
     deblur::van_cittert_line_into(
-        src.data,
-        src.width,
-        src.height,
-        src.stride,
-        &mut *dst.data,
-        dst.width,
-        dst.height,
-        dst.stride,
-        config,
-        scratch,
+        src.data, src.width, src.height, src.stride, data, width, height, stride, config, scratch,
     )
 }
 
@@ -114,17 +113,14 @@ pub fn directional_unsharp_line_into<'a, 'b>(
     ensures { Filtered (seen src.entry) (lent dst.entry) dst.exit.0.now (unsharp_of config)
         scratch.old scratch.new result }
 {
+    let Gray8ViewMut {
+        data,
+        width,
+        height,
+        stride,
+    } = dst;
     deblur::directional_unsharp_line_into(
-        src.data,
-        src.width,
-        src.height,
-        src.stride,
-        &mut *dst.data,
-        dst.width,
-        dst.height,
-        dst.stride,
-        config,
-        scratch,
+        src.data, src.width, src.height, src.stride, data, width, height, stride, config, scratch,
     )
 }
 
@@ -136,31 +132,28 @@ pub fn fixed_binomial_unsharp_into<'a, 'b>(
     ensures { Sharpened (seen src.entry) (lent dst.entry) dst.exit.0.now scratch.old
         scratch.new result }
 {
+    let Gray8ViewMut {
+        data,
+        width,
+        height,
+        stride,
+    } = dst;
     sharpen::fixed_binomial_unsharp_into(
-        src.data,
-        src.width,
-        src.height,
-        src.stride,
-        &mut *dst.data,
-        dst.width,
-        dst.height,
-        dst.stride,
-        scratch,
+        src.data, src.width, src.height, src.stride, data, width, height, stride, scratch,
     )
 }
 
 pub fn box_downscale_half<'a, 'b>(src: Gray8View<'a>, dst: Gray8ViewMut<'b>) -> ResizeAnswer
     ensures { BoxHalved (seen src.entry) (lent dst.entry) dst.exit.0.now result }
 {
+    let Gray8ViewMut {
+        data,
+        width,
+        height,
+        stride,
+    } = dst;
     resize::box_downscale_half(
-        src.data,
-        src.width,
-        src.height,
-        src.stride,
-        &mut *dst.data,
-        dst.width,
-        dst.height,
-        dst.stride,
+        src.data, src.width, src.height, src.stride, data, width, height, stride,
     )
 }
 
@@ -173,17 +166,14 @@ pub fn halve<'a, 'b>(
     ensures { Halved count (seen src.entry) (lent dst.entry) dst.exit.0.now scratch.old
         scratch.new result }
 {
+    let Gray8ViewMut {
+        data,
+        width,
+        height,
+        stride,
+    } = dst;
     resize::halve(
-        src.data,
-        src.width,
-        src.height,
-        src.stride,
-        &mut *dst.data,
-        dst.width,
-        dst.height,
-        dst.stride,
-        count,
-        scratch,
+        src.data, src.width, src.height, src.stride, data, width, height, stride, count, scratch,
     )
 }
 
@@ -197,17 +187,14 @@ pub fn restore<'a, 'b>(
     ensures { Restored (seen src.entry) (lent dst.entry) dst.exit.0.now config
         scratch.old scratch.new swings.old swings.new result }
 {
+    let Gray8ViewMut {
+        data,
+        width,
+        height,
+        stride,
+    } = dst;
     job::restore(
-        src.data,
-        src.width,
-        src.height,
-        src.stride,
-        &mut *dst.data,
-        dst.width,
-        dst.height,
-        dst.stride,
-        config,
-        scratch,
+        src.data, src.width, src.height, src.stride, data, width, height, stride, config, scratch,
         swings,
     )
 }

@@ -1,1 +1,2 @@
-// No code: the walks by hand of the crates above share the proofs here.
+// No code: laws that several crates above share.
+#![tactic(auto)]

@@ -1,0 +1,13 @@
+-- `record::limits::is_angle` meets its contract.
+use mathlib.Core.Path.{sym, ◌∙◌}
+use Rattle.record.proofs.Doubles.{finite_pattern}
+use Rattle.record.proofs.Legal.{angle_refused}
+use Rattle.record.proofs.limits.is_angle.Goals as goal
+
+pub float_from_bits-bits : goal.float_from_bits-bits
+float_from_bits-bits c =
+    finite_pattern c.args.bits (sym c.is_finite_bits.ensures ∙ c.if-is_finite_bits.true)
+
+pub returns : goal.returns
+returns c =
+    sym (angle_refused c.args.bits (sym c.is_finite_bits.ensures ∙ c.if-is_finite_bits.false))

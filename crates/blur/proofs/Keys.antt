@@ -17,7 +17,7 @@ use lib.Ieee.Nearest.{div_mono}
 use lib.Ieee.Positive.{num, den, positive, den_pos, le→cross, cross→le}
 use lib.Ieee.Bits.{of_bits-to_bits}
 use Rattle.blur.specs.Median.{sort}
-use Rattle.walks.specs.Each.{Each}
+use Rattle.std.specs.List.{AllByRecursion as Each}
 use Rattle.blur.specs.Select.{Positive}
 use Rattle.blur.proofs.Sorting.{map_sort}
 

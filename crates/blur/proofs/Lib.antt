@@ -7,6 +7,7 @@ pub mod Estimate
 pub mod Keys
 pub mod LengthExamples
 pub mod Passes
+pub mod Passing
 pub mod Place
 pub mod Radix
 pub mod Rounds

@@ -16,7 +16,7 @@ use borrow.Author.Tests.{eq-eqb, ne_eqb, eqb-true, eqb-false}
 use Rattle.swings.specs.declared.Swing.{Swing}
 use Rattle.blur.specs.declared.select.Pass.{Pass}
 use Rattle.blur.specs.Median.{stays, kept}
-use Rattle.walks.specs.Each.{Each}
+use Rattle.std.specs.List.{AllByRecursion as Each}
 use Rattle.blur.specs.Select.{high, counted, passed, tallied, pass_all, tally_all, Positive, Widths}
 use Rattle.blur.proofs.Place.{bit, count}
 use Rattle.blur.proofs.Radix.{having}

@@ -10,8 +10,8 @@ use lib.Dec.{T, ltb, leb, ltb→lt, nltb→le, leb→le, nleb→lt}
 use lib.ListN.{length, get_or}
 use borrow.Author.Tests.{lt-ltb, le-ltb}
 use Rattle.blur.specs.Median.{insert, sort}
-use Rattle.walks.specs.Each.{Each}
-use Rattle.walks.proofs.Each.{each_map, each_at}
+use Rattle.std.specs.List.{AllByRecursion as Each}
+use Rattle.numbers.proofs.Each.{each_map, each_at}
 use Rattle.numbers.proofs.Test.{cond_both}
 use Rattle.blur.proofs.Sorting.{each_insert, length_sort}
 

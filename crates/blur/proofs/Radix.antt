@@ -9,9 +9,9 @@ use native.Mathlib.Omega.{arith}
 use lib.Dec.{T, ltb, eqb, ltb→lt, nltb→le}
 use lib.ListN.{length, get_or}
 use borrow.Author.Tests.{lt-ltb, le-ltb, eq-eqb, ne_eqb, ltb-true, ltb-false}
-use Rattle.walks.specs.Each.{Each}
+use Rattle.std.specs.List.{AllByRecursion as Each}
 use Rattle.blur.specs.Select.{pick_from}
-use Rattle.walks.proofs.Each.{each_map}
+use Rattle.numbers.proofs.Each.{each_map}
 use Rattle.blur.proofs.Place.{bit, count, under, At, under_mono, under_none, count_le}
 
 -- how many keys have the part q above the unit u

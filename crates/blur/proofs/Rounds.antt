@@ -19,11 +19,11 @@ use Rattle.swings.specs.declared.Swing.{Swing}
 use Rattle.blur.specs.declared.select.Pass.{Pass}
 use Rattle.swings.specs.Swings.{strongest}
 use Rattle.blur.specs.Median.{stays, kept}
-use Rattle.walks.specs.Each.{Each}
+use Rattle.std.specs.List.{AllByRecursion as Each}
 use Rattle.blur.specs.Select.{pass_all, tally_all, pick_from, wanted, reach_of, narrowed, zeros, round, NarrowAsked}
 use Rattle.blur.specs.Select.{Widths, SelectAsked}
 use Rattle.swings.specs.Scan.{span_of}
-use Rattle.walks.proofs.Each.{each_map}
+use Rattle.numbers.proofs.Each.{each_map}
 use Rattle.blur.proofs.Place.{count, count_le}
 use Rattle.blur.proofs.Spans.{span_fits, span_within}
 use Rattle.blur.proofs.Radix.{having, Narrowed, narrow_step, narrowed_start, narrowed_small}
@@ -351,10 +351,3 @@ module _ (l : List Swing) (a : Pass) (k : Known l a) (some : 0 < a.left) where
         below = omega (arith, ap (λ (b : Pass). b.shift) e, k.step, k.most);
         some = omega (arith, ap (λ (b : Pass). b.left) e);
       }
-
-  pub reach_within : a.reach ≤ a.total
-  reach_within = go reached
-    where
-      go : (a.reach ≡ length l) ⊎ Shared → a.reach ≤ a.total
-      go (inl e) = omega (arith, k.total)
-      go (inr s) = omega (arith, s.none)

@@ -15,10 +15,10 @@ use borrow.Author.Tests.{eqb-false}
 use Rattle.swings.specs.declared.Swing.{Swing}
 use Rattle.blur.specs.declared.select.Pass.{Pass}
 use Rattle.blur.specs.Median.{kept, sort, median, length_from, length_of}
-use Rattle.walks.specs.Each.{Each}
+use Rattle.std.specs.List.{AllByRecursion as Each}
 use Rattle.blur.specs.Select.{high, passed, tallied, pass_all, tally_all, zeros, answered, TallyAsked, PassAsked}
 use Rattle.blur.specs.Select.{Positive, Widths}
-use Rattle.walks.proofs.Each.{each_take, each_at}
+use Rattle.numbers.proofs.Each.{each_take, each_at}
 use Rattle.blur.proofs.Sorting.{median_each}
 use Rattle.blur.proofs.Place.{count_le, at_sorted}
 use Rattle.blur.proofs.Keys.{bits_at}

@@ -1,18 +1,15 @@
--- The state of the loop of `select`: `while a.left > 0 { b = pass(a, counts); a = narrow(b, counts); }`. `At` is
--- what a turn starts from. Assumes nothing.
+-- The state of the loop of `select`: a pass, and the choice of its digit. `At` is what a turn starts from.
 use mathlib.Core.Path.{◌≡◌, refl, sym, ◌∙◌, ap, subst}
-use Prim.Native.Nat.{ℕ, ◌≤◌, ◌<◌}
-use native.Mathlib.Omega.{arith}
+use Prim.Native.Nat.{ℕ, ◌<◌}
 use mathlib.Core.List.{List}
 use lib.IntN.{pos}
 use lib.Ieee.{binary64, of_bits}
-use lib.ListN.{length, take, replicate, length-take}
-use Rattle.walks.proofs.Lists.{take_less}
+use lib.ListN.{take, replicate}
 use Rattle.swings.specs.declared.Swing.{Swing}
 use Rattle.blur.specs.Select.{pass_all, tally_all, narrowed, zeros, round, PassAsked, Passes, NarrowAsked, Narrows}
 use Rattle.blur.specs.Select.{SelectAsked}
 use Rattle.blur.specs.declared.select.Pass.{Pass}
-use Rattle.blur.proofs.Rounds.{Known, known_first, known_next, less, narrowable, reach_within}
+use Rattle.blur.proofs.Rounds.{Known, known_first, known_next, less, narrowable}
 use Rattle.blur.proofs.Selected.{countables}
 
 -- a state and the counts, after a pass over l and after the choice of a digit
@@ -36,10 +33,7 @@ pub no_counts : replicate 8192 0 ≡ zeros
 unfolding zeros
 no_counts = refl
 
-module _ (xs : List Swing) (p : Pass) where
-  abbrev pub swings : List Swing
-  swings = take p.total xs
-
+module _ (swings : List Swing) (p : Pass) where
   pub record At (c : Pass) (counts : List ℕ) : Type 0 where
     pub clear : counts ≡ zeros
     pub known : Known swings c
@@ -50,21 +44,12 @@ module _ (xs : List Swing) (p : Pass) where
   module _ (asks : SelectAsked swings p) {c : Pass} {counts : List ℕ} (t : At c counts) (more : 0 < c.left) where
     -- the records that a pass goes over
     abbrev shown : List Swing
-    shown = take c.reach xs
-
-    within : c.reach ≤ length swings
-    within = omega (arith, reach_within swings c t.known more, t.known.total)
-
-    pub shown_within : c.reach ≤ length xs
-    shown_within = omega (arith, within, length-take p.total xs)
-
-    shown-is : take c.reach swings ≡ shown
-    shown-is = take_less c.reach p.total xs (omega (arith, within, length-take p.total xs))
+    shown = take c.reach swings
 
     pub passable : PassAsked shown c counts
-    passable = subst (PassAsked shown c) (sym t.clear) (subst (λ (l : List Swing). PassAsked l c zeros) shown-is
+    passable = subst (PassAsked shown c) (sym t.clear)
         (countables c.reach swings (record { width = of_bits binary64 0; swing = pos 0 }) c t.known asks.widths
-        asks.few))
+        asks.few)
 
     -- the pass has left u, and the choice of a digit v
     module _ (u : Both) (e : Passes shown c counts u.1 u.0) where
@@ -77,7 +62,6 @@ module _ (xs : List Swing) (p : Pass) where
         round_is =
             ap (λ (z : Both). z.0) (narrows_is u v e' ∙ ap onward (passes_is shown (c, counts) u e))
             ∙ ap (λ (cs : List ℕ). narrowed (pass_all shown c) (tally_all shown c cs)) t.clear
-            ∙ ap (λ (l : List Swing). narrowed (pass_all l c) (tally_all l c zeros)) (sym shown-is)
 
         pub after : At v.0 v.1
         after = record {

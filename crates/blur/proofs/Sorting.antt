@@ -7,8 +7,8 @@ use Prim.Native.Nat.{suc, ◌/◌, ◌<◌}
 use native.Mathlib.Omega.{arith}
 use lib.ListN.{length}
 use lib.Ieee.{Float, nan, le}
-use Rattle.walks.specs.Each.{Each}
-use Rattle.walks.proofs.Each.{each_at}
+use Rattle.std.specs.List.{AllByRecursion as Each}
+use Rattle.numbers.proofs.Each.{each_at}
 use Rattle.blur.specs.Median.{insert, sort, median}
 
 module _ {A : Type 0} (P : A → Type 0) where

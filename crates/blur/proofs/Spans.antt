@@ -11,9 +11,9 @@ use borrow.Author.Tests.{ltb-false}
 use Rattle.swings.specs.declared.Swing.{Swing}
 use Rattle.swings.specs.declared.scan.Span.{Span}
 use Rattle.swings.specs.Scan.{lesser, greater, widened_by, span_from, span_of}
-use Rattle.walks.specs.Each.{Each}
+use Rattle.std.specs.List.{AllByRecursion as Each}
 use Rattle.blur.specs.Select.{Positive, Widths}
-use Rattle.walks.proofs.Each.{each_map}
+use Rattle.numbers.proofs.Each.{each_map}
 use Rattle.blur.proofs.Keys.{bits_mono}
 
 abbrev key : Float → ℕ

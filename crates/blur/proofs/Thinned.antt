@@ -3,14 +3,13 @@
 use mathlib.Core.Path.{◌≡◌, refl, sym, ◌∙◌, ap}
 use mathlib.Core.Bool.{Bool, true, false, cond, true≢false}
 use mathlib.Core.List.{List, [], ◌∷◌}
-use Prim.Native.Nat.{ℕ}
+use Prim.Native.Nat.{ℕ, suc, ◌+◌, ◌*◌}
 use native.Mathlib.Omega.{arith}
 use lib.IntN.{ℤ, pos, negsuc, ◌*ℤ◌}
 use lib.Signed.{le_z}
 use lib.Ieee.{Float}
 use borrow.Author.Tests.{lt-leb, leb-false}
 use Rattle.numbers.proofs.Int.Linear.{linear}
-use Rattle.blur.proofs.Steps.{twice_suc}
 use Rattle.swings.specs.declared.Swing.{Swing}
 use Rattle.swings.specs.Swings.{larger, strongest}
 use Rattle.swings.specs.Scan.{half_of, thinned}
@@ -19,6 +18,9 @@ use Rattle.swings.proofs.Thinned.{onward}
 use Rattle.blur.specs.Median.{stays, kept, length_from, length_of}
 
 -- ---- half of the strongest: a swing below it does not stay, and is not the strongest
+twice_suc : (m : ℕ) → 2 * suc m ≡ suc (2 * m + 1)
+twice_suc m = omega arith
+
 below_half : (all top z : ℤ) → le_z (pos 0) all ≡ true → le_z top all ≡ true → le_z (pos (half_of top)) z ≡ false
     → le_z all (pos 2 *ℤ z) ≡ false
 unfolding half_of

@@ -1,12 +1,10 @@
 -- Document 01, 'Length', from the list of swings on: which swings stay, and the length that their widths give.
-use Rattle.std.specs.Prelude.{◌≡◌, refl, Bool, cond, ◌||◌, List, [], ◌∷◌, ℕ, ◌/◌, ltb, eqb, ℤ, pos, ◌*ℤ◌, length, get_or, Float}
+use Rattle.std.specs.Prelude.{◌≡◌, refl, Bool, cond, ◌||◌, List, [], ◌∷◌, ℕ, ◌/◌, ltb, eqb, ℤ, pos, ◌*ℤ◌, length, get_or, Float, Option, None, Some}
 use Rattle.std.specs.Int.Signed.{le_z}
 use Rattle.std.specs.Float.{nan, binary64}
 use Rattle.std.specs.Float.Ieee.{of_bits, div, le}
 use Rattle.swings.specs.declared.Swing.{Swing}
 use Rattle.swings.specs.Swings.{strongest}
-use Rattle.blur.specs.declared.length.LineLength.{LineLength}
-use Rattle.blur.specs.declared.length.LineLength.TheVariants.{Found, Nothing}
 
 -- "Swings of at least half the strongest stay."
 abbrev pub stays : ℤ → Swing → Bool
@@ -37,12 +35,12 @@ six_tenths = of_bits binary64 0x3FE3333333333333
 
 -- "Fewer than the minimum: Nothing. Else the width .. divided by 0.6." No swing at all gives Nothing whatever the
 -- minimum.
-abbrev pub length_from : List Float → ℕ → LineLength
+abbrev pub length_from : List Float → ℕ → Option Float
 length_from ws minimum =
-    cond (eqb (length ws) 0 || ltb (length ws) minimum) Nothing (Found (div binary64 (median ws) six_tenths))
+    cond (eqb (length ws) 0 || ltb (length ws) minimum) None (Some (div binary64 (median ws) six_tenths))
 
 -- the length that a list of swings gives
-abbrev pub length_of : List Swing → ℕ → LineLength
+abbrev pub length_of : List Swing → ℕ → Option Float
 length_of l minimum = length_from (kept (strongest l) l) minimum
 
 -- ---- worked examples
@@ -59,10 +57,10 @@ some =
     ∷ (swing 0x3FF0000000000000 (pos 49)
     ∷ (swing 0x4004000000000000 (pos 50) ∷ (swing 0x4000000000000000 (pos 200) ∷ [])))
 
-example_found : length_of some 2 ≡ Found (of_bits binary64 0x4014000000000000)
+example_found : length_of some 2 ≡ Some (of_bits binary64 0x4014000000000000)
 unfolding some swing of_bits le div
 example_found = refl
 
-example_few : length_of some 3 ≡ Nothing
+example_few : length_of some 3 ≡ None
 unfolding some swing of_bits le div
 example_few = refl

@@ -1,16 +1,14 @@
 -- What the selection of the median does, pass by pass. The keys are the widths' bit patterns, read as digits of 13
 -- bits.
-use Rattle.std.specs.Prelude.{◌≡◌, refl, Bool, cond, not, ◌&&◌, ◌||◌, List, [], ◌∷◌, ℕ, suc, ◌+◌, ◌-◌, ◌*◌, ◌/◌, ◌%◌, ◌^◌, ◌<◌, T, ltb, eqb, ℤ, pos, length, get_or, set, take, replicate, Float}
+use Rattle.std.specs.Prelude.{◌≡◌, refl, Bool, cond, not, ◌&&◌, ◌||◌, List, [], ◌∷◌, ℕ, suc, ◌+◌, ◌-◌, ◌*◌, ◌/◌, ◌%◌, ◌^◌, ◌<◌, T, ltb, eqb, ℤ, pos, length, get_or, set, take, replicate, Float, Option, None, Some}
 use Rattle.std.specs.Float.{Format, binary64}
 use Rattle.std.specs.Float.Ieee.{fits, is_nan, to_bits, of_bits, lt, div}
 use Rattle.std.specs.Float.Ieee.Positive.{positive}
 use Rattle.swings.specs.declared.Swing.{Swing}
-use Rattle.blur.specs.declared.length.LineLength.{LineLength}
-use Rattle.blur.specs.declared.length.LineLength.TheVariants.{Found, Nothing}
 use Rattle.blur.specs.declared.select.Pass.{Pass}
 use Rattle.blur.specs.declared.select.Chosen.{Chosen}
 use Rattle.swings.specs.declared.scan.Span.{Span}
-use Rattle.walks.specs.Each.{Each}
+use Rattle.std.specs.List.{AllByRecursion as Each}
 use Rattle.swings.specs.Scan.{span_of}
 use Rattle.swings.specs.Swings.{strongest}
 use Rattle.blur.specs.Median.{stays, six_tenths}
@@ -131,10 +129,10 @@ abbrev pub round : List Swing → Pass → Pass
 round l a = narrowed (pass_all (take a.reach l) a) (tally_all (take a.reach l) a zeros)
 
 -- ---- after the last pass the prefix is the median's bit pattern
-abbrev pub answered : Pass → ℕ → LineLength
+abbrev pub answered : Pass → ℕ → Option Float
 answered a minimum =
-    cond (eqb a.kept 0 || ltb a.kept minimum) Nothing
-    (Found (div binary64 (of_bits binary64 a.prefix) six_tenths))
+    cond (eqb a.kept 0 || ltb a.kept minimum) None
+    (Some (div binary64 (of_bits binary64 a.prefix) six_tenths))
 
 -- ---- what the steps ask for
 

@@ -1,35 +1,24 @@
 // How long a smear is: document 01, 'Length'.
-ghost use Rattle.std.specs.Prelude.{◌≡◌};
-ghost use Rattle.image.specs.Call.{gray8};
+ghost use Rattle.std.specs.Prelude.{◌≡◌, ◌<◌, ◌≤◌, ◌^◌, IfOk};
+ghost use Rattle.image.specs.Call.{Checks};
+ghost use Rattle.image.specs.View.{seen};
 ghost use Rattle.swings.specs.Line.{step_pixels};
-ghost use Rattle.blur.specs.Length.{length_refusal, too_little, scan_plan, defaults, LengthMeasured};
-ghost use Rattle.blur.specs.Length.{undirected_refusal, SnappedMeasured};
 ghost use Rattle.raster.specs.Direction.{from_angle};
+ghost use Rattle.raster.specs.Lines.{Sides};
+ghost use Rattle.blur.specs.Conditions.{LengthAccepted};
+ghost use Rattle.blur.specs.Length.{length_refusal, too_little, scan_plan, defaults, LengthMeasured, SnappedMeasured};
 
 use crate::records::select;
-use crate::select::opened;
-use image::layout_refusal;
-use raster::direction::{RasterDirection4, SnappedDirection};
+use crate::select::Pass;
+use image::{Gray8View, Layout, Refusal};
+use raster::direction::RasterDirection4;
 use raster::lines::{line_count, place_step};
 use swings::Swing;
 use swings::kernel::fill;
-use swings::scan::{ScanPlan, begin};
-
-// The smear's length, or nothing to tell it by.
-#[derive(Clone, Copy)]
-pub enum LineLength {
-    Found(f64),
-    Nothing,
-}
-
-#[derive(Clone, Copy)]
-pub enum LengthAnswer {
-    Length(LineLength),
-    Refused(u8),
-}
+use swings::scan::ScanPlan;
 
 // How many swings there must be, and by how much a line must change at least for a swing.
-#[derive(Clone, Copy)]
+#[derive(Clone, Copy, Debug, PartialEq, Eq)]
 pub struct LineLengthConfig {
     pub minimum_transitions: usize,
     pub minimum_amplitude: u8,
@@ -41,9 +30,18 @@ impl LineLengthConfig {
 
     pub const MINIMUM_AMPLITUDE: u8 = 24;
 
-    pub fn default() -> Self
-        ensures { result ≡ defaults }
+    // Nothing can be measured: a threshold is 0, or a side is below 3.
+    fn too_little(self, width: usize, height: usize) -> bool
+        ensures { result ≡ too_little width height self }
     {
+        self.minimum_transitions == 0 || self.minimum_amplitude == 0 || width < 3 || height < 3
+    }
+}
+
+impl Default for LineLengthConfig {
+    ghost is_default = { λ config. config ≡ defaults };
+
+    fn default() -> LineLengthConfig {
         LineLengthConfig {
             minimum_transitions: LineLengthConfig::MINIMUM_TRANSITIONS,
             minimum_amplitude: LineLengthConfig::MINIMUM_AMPLITUDE,
@@ -51,39 +49,16 @@ impl LineLengthConfig {
     }
 }
 
-// Refusals 1 to 4 of the layout, and 10 for fewer records than pixels; 0 where there is none.
-fn length_refusal(bytes: usize, width: usize, height: usize, stride: usize, lent: usize) -> u8
-    ensures { result ≡ length_refusal bytes width height stride lent }
+// Refusals 1 to 4 of the layout, and 10 for fewer records than pixels.
+fn check_length(layout: Layout, lent: usize) -> Result<(), Refusal>
+    ensures number { Checks (length_refusal layout.len layout.width layout.height layout.stride lent) result }
+    ensures accepted { IfOk result (λ _. LengthAccepted layout.len layout.width layout.height layout.stride lent) }
 {
-    let own = layout_refusal(bytes, width, height, stride);
-    if own != 0 {
-        return own;
+    layout.check()?;
+    if lent < layout.width * layout.height {
+        return Err(Refusal::LentTooSmall);
     }
-    if lent < width * height {
-        return 10;
-    }
-    0
-}
-
-// Nothing can be measured: a threshold is 0, or a side is below 3.
-fn too_little(
-    width: usize,
-    height: usize,
-    minimum_transitions: usize,
-    minimum_amplitude: u8,
-) -> bool
-    ensures { result ≡ too_little width height minimum_transitions minimum_amplitude }
-{
-    if minimum_transitions == 0 {
-        return true;
-    }
-    if minimum_amplitude == 0 {
-        return true;
-    }
-    if width < 3 {
-        return true;
-    }
-    height < 3
+    Ok(())
 }
 
 // How far apart the places of a line are.
@@ -91,146 +66,71 @@ fn step_pixels(direction: RasterDirection4) -> f64
     ensures { result ≡ step_pixels direction }
 {
     match direction {
-        RasterDirection4::Horizontal => 1.0,
-        RasterDirection4::DownRight => 1.4142135623730951,
-        RasterDirection4::Vertical => 1.0,
-        RasterDirection4::DownLeft => 1.4142135623730951,
+        RasterDirection4::Horizontal | RasterDirection4::Vertical => 1.0,
+        RasterDirection4::DownRight | RasterDirection4::DownLeft => 1.4142135623730951,
     }
 }
 
-// What is to be scanned: no line where the call is refused, or where nothing can be measured.
-pub(crate) fn scan_plan(
-    bytes: usize,
-    lent: usize,
-    width: usize,
-    height: usize,
-    stride: usize,
-    direction: RasterDirection4,
-    minimum_transitions: usize,
-    minimum_amplitude: u8,
-) -> ScanPlan
-    ensures { result ≡ scan_plan bytes lent width height stride direction minimum_transitions minimum_amplitude }
+// What is to be scanned: all lines of the direction.
+fn scan_plan<'a>(src: Gray8View<'a>, direction: RasterDirection4, minimum_amplitude: u8) -> ScanPlan
+    requires { Sides src.width src.height × (1 ≤ src.stride) × (src.stride < 2 ^ 63) }
+    ensures { result ≡ scan_plan src.entry.width src.entry.height src.entry.stride direction minimum_amplitude }
 {
-    let refusal = length_refusal(bytes, width, height, stride, lent);
-    let pixel = step_pixels(direction);
-    let mut plan = ScanPlan {
-        refusal,
+    ScanPlan {
         direction,
-        width,
-        height,
-        stride,
-        count: 0,
-        step: 1,
-        pixel,
+        count: line_count(direction, src.width, src.height),
+        step: place_step(direction, src.stride),
+        pixel: step_pixels(direction),
         minimum_amplitude,
-    };
-    if refusal != 0 {
-        return plan;
     }
-    if too_little(width, height, minimum_transitions, minimum_amplitude) {
-        return plan;
-    }
-    plan.count = line_count(direction, width, height);
-    plan.step = place_step(direction, stride);
-    plan
 }
 
-pub(crate) fn refused(number: u8) -> LengthAnswer
-    ensures { result ≡ LengthAnswer.Refused number }
-{
-    LengthAnswer::Refused(number)
-}
-
-// The length along a direction.
-pub fn estimate_along(
-    data: &[u8],
-    width: usize,
-    height: usize,
-    stride: usize,
+// The length along a direction, or none to tell.
+#[tactic(auto, unfolding(crate::specs::Length::length_decision))]
+pub fn estimate_along<'a>(
+    src: Gray8View<'a>,
     direction: RasterDirection4,
-    minimum_transitions: usize,
-    minimum_amplitude: u8,
+    config: LineLengthConfig,
     swings: &mut [Swing],
-) -> LengthAnswer
-    ensures { LengthMeasured (gray8 «data».now width height stride) direction
-        minimum_transitions minimum_amplitude swings.old swings.new result }
+) -> Result<Option<f64>, Refusal>
+    ensures { LengthMeasured (seen src.entry) direction config swings.old swings.new result }
 {
-    let plan = scan_plan(
-        data.len(),
-        swings.len(),
-        width,
-        height,
-        stride,
-        direction,
-        minimum_transitions,
-        minimum_amplitude,
-    );
-    if plan.refusal != 0 {
-        return refused(plan.refusal);
+    check_length(src.layout(), swings.len())?;
+    if config.too_little(src.width, src.height) {
+        return Ok(None);
     }
-    let s = fill(data, plan, begin(), swings);
-    select(swings, opened(s), minimum_transitions)
+    let plan = scan_plan(src, direction, config.minimum_amplitude);
+    let scan = fill(src, plan, swings);
+    Ok(select(
+        &swings[..scan.count],
+        Pass::opened(scan),
+        config.minimum_transitions,
+    ))
 }
 
-// What is refused where the angle has no direction: 1 to 4 of the layout, and else 7.
-fn undirected(bytes: usize, width: usize, height: usize, stride: usize) -> LengthAnswer
-    ensures { result ≡ LengthAnswer.Refused (undirected_refusal bytes width height stride) }
-{
-    let own = layout_refusal(bytes, width, height, stride);
-    if own != 0 {
-        return LengthAnswer::Refused(own);
-    }
-    LengthAnswer::Refused(7)
-}
-
-// The length along the direction nearest to an angle.
-pub fn estimate_line_length_with(
-    data: &[u8],
-    width: usize,
-    height: usize,
-    stride: usize,
+// The length along the direction nearest to an angle. Refusals 1 to 4 of the layout, 7 for an angle without a
+// direction, and 10.
+#[tactic(auto, unfolding(crate::specs::Length::length_decision))]
+pub fn estimate_line_length_with<'a>(
+    src: Gray8View<'a>,
     theta_radians: f64,
     config: LineLengthConfig,
     swings: &mut [Swing],
-) -> LengthAnswer
-    ensures { SnappedMeasured (gray8 «data».now width height stride) (from_angle theta_radians)
-        config.minimum_transitions config.minimum_amplitude swings.old swings.new result }
+) -> Result<Option<f64>, Refusal>
+    ensures { SnappedMeasured (seen src.entry) (from_angle theta_radians) config swings.old swings.new result }
 {
-    let SnappedDirection::Found(direction) = RasterDirection4::from_angle(theta_radians) else {
-        return undirected(data.len(), width, height, stride);
-    };
-    estimate_along(
-        data,
-        width,
-        height,
-        stride,
-        direction,
-        config.minimum_transitions,
-        config.minimum_amplitude,
-        swings,
-    )
+    src.check()?;
+    let direction = RasterDirection4::from_angle(theta_radians).ok_or(Refusal::InvalidLine)?;
+    estimate_along(src, direction, config, swings)
 }
 
 // The same with the default thresholds.
-pub fn estimate_line_length(
-    data: &[u8],
-    width: usize,
-    height: usize,
-    stride: usize,
+pub fn estimate_line_length<'a>(
+    src: Gray8View<'a>,
     theta_radians: f64,
     swings: &mut [Swing],
-) -> LengthAnswer
-    ensures { SnappedMeasured (gray8 «data».now width height stride) (from_angle theta_radians)
-        defaults.minimum_transitions defaults.minimum_amplitude
-        swings.old swings.new result }
+) -> Result<Option<f64>, Refusal>
+    ensures { SnappedMeasured (seen src.entry) (from_angle theta_radians) defaults swings.old swings.new result }
 {
-    estimate_line_length_with(
-        data,
-        width,
-        height,
-        stride,
-        theta_radians,
-        LineLengthConfig::default(),
-        swings,
-    )
+    estimate_line_length_with(src, theta_radians, LineLengthConfig::default(), swings)
 }

@@ -3,21 +3,21 @@
 // question; the digit is chosen where the running sum of the counts goes past the wanted place. A pass goes over no
 // record where the least and the greatest width share its digit and those above: there every count would wait for the
 // one before.
-ghost use Rattle.std.specs.Prelude.{◌≡◌, cond, not, ◌&&◌, ◌/◌, ◌^◌, ◌-◌, ◌<◌, T, eqb, pos, ◌*ℤ◌, length, replicate};
-ghost use Rattle.std.specs.Int.Signed.{le_z};
+ghost use Rattle.std.specs.Prelude.{◌≡◌, not, ◌^◌, ◌<◌, T};
 ghost use Rattle.std.specs.Float.{binary64};
-ghost use Rattle.std.specs.Float.Ieee.{is_nan, nan_bits, to_bits};
+ghost use Rattle.std.specs.Float.Ieee.{is_nan, nan_bits};
+ghost use Rattle.blur.specs.Median.{stays};
 ghost use Rattle.blur.specs.Select.{pick_from, wanted, kept_of, prefix_of, reach_of, started, answered, TallyAsked};
 ghost use Rattle.blur.specs.Select.{Tallied, NarrowAsked, Narrows};
 
-use crate::length::{LengthAnswer, LineLength};
 use swings::Swing;
 use swings::scan::Scan;
 
 // A pass over the first `reach` of `total` records, with `left` digits to find: `count` records were counted so far, of
 // those that stay and have the digits `prefix` above the digit at `shift`. Of the keys with that prefix the one at
 // `place` is wanted; `kept` swings stay in all, and 0 before they are counted. All keys lie from `low` to `high`.
-#[derive(Clone, Copy)]
+// That `shift` is below 64 is asked in contracts: a ghost field would have to be shown again at each new state.
+#[derive(Clone, Copy, Debug, PartialEq, Eq)]
 pub struct Pass {
     pub left: u32,
     pub total: usize,
@@ -32,117 +32,26 @@ pub struct Pass {
     pub count: u32,
 }
 
-#[derive(Clone, Copy)]
+// A digit, and the place among the keys with that digit. No Option: where there is no such digit, no pass reads either
+// number, and any two do.
+#[derive(Clone, Copy, Debug, PartialEq, Eq)]
 pub struct Chosen {
     pub digit: usize,
     pub place: u32,
 }
 
-fn stays(swing: i32, strongest: i32) -> bool
-    ensures { result ≡ le_z strongest (pos 2 *ℤ swing) }
-{
-    strongest as i64 <= 2 * (swing as i64)
-}
-
-fn high_digits(width: f64, shift: u32) -> u64
-    requires { T (not (is_nan width)) × (shift < 64) }
-    ensures { result ≡ to_bits binary64 width / 2 ^ shift }
-{
-    f64::to_bits(width) >> shift
-}
-
-// 1 for a record that a pass counts and 0 for any other, so that `tally` has no branch to guess.
-fn counted(swing: i32, strongest: i32, high: u64, prefix: u64) -> u32
-    ensures { result ≡ cond (le_z strongest (pos 2 *ℤ swing) && eqb (high / 8192) prefix) 1 0 }
-{
-    if !stays(swing, strongest) {
-        return 0;
-    }
-    if high / 8192 != prefix {
-        return 0;
-    }
-    1
-}
-
-// One record's step in a pass.
-pub(crate) fn tally(s: Swing, a: Pass, counts: &mut [u32]) -> Pass
-    requires { TallyAsked s a counts.old }
-    ensures { Tallied s a counts.old counts.new result }
-{
-    let high = high_digits(s.width, a.shift);
-    let one = counted(s.swing, a.strongest, high, a.prefix);
-    let digit = (high % 8192) as usize;
-    counts[digit] += one;
-    let mut next = a;
-    next.count += one;
-    next
-}
-
-pub fn clear(counts: &mut [u32])
-    ensures { counts.new ≡ replicate (length counts.old) 0 }
-{
-    let mut i = 0;
-    while i < counts.len() {
-        counts[i] = 0;
-        i += 1;
-    }
-}
-
+// The digit at which the running sum of the counts goes past the place; 0 and 0 where none does.
 pub fn choose(counts: &[u32], place: u32) -> Chosen
     ensures { result ≡ pick_from counts.now 0 place }
 {
-    let mut digit = 0;
     let mut left = place;
-    while digit < counts.len() {
-        let count = counts[digit];
+    for (digit, &count) in counts.iter().enumerate() {
         if left < count {
             return Chosen { digit, place: left };
         }
         left -= count;
-        digit += 1;
     }
     Chosen { digit: 0, place: 0 }
-}
-
-// The place in ascending order that the length is read from.
-fn middle(count: u32) -> u32
-    ensures { result ≡ count / 2 }
-{
-    count / 2
-}
-
-fn place_of(a: Pass) -> u32
-    ensures { result ≡ wanted a }
-{
-    if a.kept == 0 {
-        middle(a.count)
-    } else {
-        a.place
-    }
-}
-
-fn kept_of(a: Pass) -> u32
-    ensures { result ≡ kept_of a }
-{
-    if a.kept == 0 { a.count } else { a.kept }
-}
-
-fn next_shift(shift: u32) -> u32
-    ensures { result ≡ shift - 13 }
-{
-    if shift < 13 { 0 } else { shift - 13 }
-}
-
-// The prefix with the digit that was chosen, or that all keys share where no record was gone over.
-fn prefix_of(a: Pass, digit: usize) -> u64
-    requires { (digit < 8192) × (a.prefix < 2 ^ 51) × (a.shift < 64) }
-    ensures { result ≡ prefix_of a digit }
-{
-    if a.reach == 0 {
-        a.low >> a.shift
-    } else {
-        a.prefix * 8192 + digit as u64
-    }
 }
 
 // How many records a pass goes over: none where all keys share its digit. The last pass counts what stays, if none did
@@ -151,78 +60,120 @@ fn reach_of(kept: u32, shift: u32, low: u64, high: u64, total: usize) -> usize
     requires { shift < 64 }
     ensures { result ≡ reach_of kept shift low high total }
 {
-    if kept != 0 {
-        return total;
-    }
-    if shift == 0 {
-        return total;
-    }
-    if low >> shift == high >> shift {
+    if kept == 0 && shift != 0 && low >> shift == high >> shift {
         0
     } else {
         total
     }
 }
 
-// After a pass: its digit joins the prefix, and the counts are 0 again for the next pass.
-pub(crate) fn narrow(a: Pass, counts: &mut [u32]) -> Pass
-    requires { NarrowAsked a counts.old }
-    ensures { Narrows a counts.old counts.new result }
-{
-    let chosen = choose(counts, place_of(a));
-    clear(counts);
-    let kept = kept_of(a);
-    let shift = next_shift(a.shift);
-    let mut next = a;
-    next.left = a.left - 1;
-    next.reach = reach_of(kept, shift, a.low, a.high, a.total);
-    next.prefix = prefix_of(a, chosen.digit);
-    next.shift = shift;
-    next.place = chosen.place;
-    next.kept = kept;
-    next.count = 0;
-    next
-}
-
-// Before the first pass, over the records of a scan.
-pub(crate) fn opened(s: Scan) -> Pass
-    requires { T (not (is_nan s.span.least)) × T (not (is_nan s.span.greatest)) }
-    ensures { result ≡ started s.strongest s.span s.count }
-{
-    let low = f64::to_bits(s.span.least);
-    let high = f64::to_bits(s.span.greatest);
-    Pass {
-        left: 5,
-        total: s.count,
-        reach: reach_of(0, 52, low, high, s.count),
-        low,
-        high,
-        strongest: s.strongest,
-        prefix: 0,
-        shift: 52,
-        place: 0,
-        kept: 0,
-        count: 0,
+impl Pass {
+    // Before the first pass, over the records of a scan.
+    pub(crate) fn opened(s: Scan) -> Pass
+        requires { T (not (is_nan s.span.least)) × T (not (is_nan s.span.greatest)) }
+        ensures { result ≡ started s.strongest s.span s.count }
+    {
+        let low = f64::to_bits(s.span.least);
+        let high = f64::to_bits(s.span.greatest);
+        Pass {
+            left: 5,
+            total: s.count,
+            reach: reach_of(0, 52, low, high, s.count),
+            low,
+            high,
+            strongest: s.strongest,
+            prefix: 0,
+            shift: 52,
+            place: 0,
+            kept: 0,
+            count: 0,
+        }
     }
-}
 
-// After the last pass: the prefix is the median's bit pattern.
-fn answer(a: Pass, minimum: usize) -> LineLength
-    requires { 0 < a.kept → T (not (nan_bits binary64 a.prefix)) }
-    ensures { result ≡ answered a minimum }
-{
-    if a.kept == 0 {
-        return LineLength::Nothing;
+    // Whether a record is of at least half of the strongest swing.
+    fn stays(self, s: Swing) -> bool
+        ensures { result ≡ stays self.strongest s }
+    {
+        i64::from(self.strongest) <= 2 * i64::from(s.swing)
     }
-    if (a.kept as usize) < minimum {
-        return LineLength::Nothing;
-    }
-    LineLength::Found(f64::from_bits(a.prefix) / 0.6)
-}
 
-pub(crate) fn measured(a: Pass, minimum: usize) -> LengthAnswer
-    requires { 0 < a.kept → T (not (nan_bits binary64 a.prefix)) }
-    ensures { result ≡ LengthAnswer.Length (answered a minimum) }
-{
-    LengthAnswer::Length(answer(a, minimum))
+    // One record's step in a pass. What is added is 0 for a record that the pass does not count, so that there is no
+    // branch to guess.
+    pub(crate) fn tally(self, s: Swing, counts: &mut [u32]) -> Pass
+        requires { TallyAsked s self counts.old }
+        ensures { Tallied s self counts.old counts.new result }
+    {
+        let high = s.width.to_bits() >> self.shift;
+        let one = u32::from(self.stays(s) & (high / 8192 == self.prefix));
+        counts[(high % 8192) as usize] += one;
+        Pass {
+            count: self.count + one,
+            ..self
+        }
+    }
+
+    // The wanted place in ascending order: half of what stays, or among the keys with the prefix.
+    fn wanted(self) -> u32
+        ensures { result ≡ wanted self }
+    {
+        if self.kept == 0 {
+            self.count / 2
+        } else {
+            self.place
+        }
+    }
+
+    fn kept_of(self) -> u32
+        ensures { result ≡ kept_of self }
+    {
+        if self.kept == 0 {
+            self.count
+        } else {
+            self.kept
+        }
+    }
+
+    // The prefix with the digit that was chosen, or that all keys share where no record was gone over.
+    fn prefix_of(self, digit: usize) -> u64
+        requires { (digit < 8192) × (self.prefix < 2 ^ 51) × (self.shift < 64) }
+        ensures { result ≡ prefix_of self digit }
+    {
+        if self.reach == 0 {
+            self.low >> self.shift
+        } else {
+            self.prefix * 8192 + digit as u64
+        }
+    }
+
+    // After a pass: its digit joins the prefix, and the counts are 0 again for the next pass.
+    pub(crate) fn narrow(self, counts: &mut [u32]) -> Pass
+        requires { NarrowAsked self counts.old }
+        ensures { Narrows self counts.old counts.new result }
+    {
+        let chosen = choose(counts, self.wanted());
+        counts.fill(0);
+        let kept = self.kept_of();
+        let shift = self.shift.saturating_sub(13);
+        Pass {
+            left: self.left - 1,
+            reach: reach_of(kept, shift, self.low, self.high, self.total),
+            prefix: self.prefix_of(chosen.digit),
+            shift,
+            place: chosen.place,
+            kept,
+            count: 0,
+            ..self
+        }
+    }
+
+    // After the last pass: the prefix is the median's bit pattern.
+    pub(crate) fn answer(self, minimum: usize) -> Option<f64>
+        requires { 0 < self.kept → T (not (nan_bits binary64 self.prefix)) }
+        ensures { result ≡ answered self minimum }
+    {
+        if self.kept == 0 || (self.kept as usize) < minimum {
+            return None;
+        }
+        Some(f64::from_bits(self.prefix) / 0.6)
+    }
 }

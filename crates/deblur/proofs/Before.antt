@@ -13,15 +13,18 @@ use lib.ListN.{length}
 use borrow.Author.Tests.{le-ltb, ltb-false}
 use Rattle.numbers.proofs.Nat.{le_mul_of_pos_left}
 use Rattle.numbers.proofs.Test.{or_false_intro, or_false_left, or_false_right}
-use Rattle.image.specs.Call.{Gray8, Decision, decided, Outcome}
+use Rattle.image.specs.Call.{Gray8, Decision, refuses, decided, told, map_found, Outcome}
+use Rattle.image.proofs.Told.{told_one}
 use Rattle.image.specs.Determined.{WritesOne}
 use Rattle.image.specs.Refusal.{layout_refusal, pair_refusal, Laid}
 use Rattle.image.proofs.Determined.{outcome_determines}
-use Rattle.image.proofs.Refusal.{laid}
+use Rattle.image.proofs.Accepted.{laid}
 use Rattle.image.proofs.Pair.{laid_pair}
-use Rattle.raster.specs.declared.direction.SnappedDirection.{SnappedDirection}
-use Rattle.raster.specs.declared.direction.SnappedDirection.TheVariants.{Found, Nothing}
-use Rattle.deblur.specs.declared.RestorationAnswer.TheVariants.{Refused}
+use Rattle.std.specs.Prelude.{Option, Some, None, Result, Err}
+use Rattle.raster.specs.declared.direction.RasterDirection4.{RasterDirection4}
+use Rattle.image.specs.declared.refusal.Refusal.{Refusal}
+use Rattle.image.specs.declared.refusal.Refusal.TheVariants.{LentTooSmall}
+use Rattle.deblur.specs.declared.RestorationMetadata.{RestorationMetadata}
 use Rattle.deblur.specs.Before.{
   scratch_before,
   filter_decision_before,
@@ -31,7 +34,7 @@ use Rattle.deblur.specs.Before.{
   AsBefore,
 }
 use Rattle.deblur.specs.Calls.{
-  restoration_answer,
+  metadata_of,
   decided_along,
   filter_decision,
   FilterWrites,
@@ -69,23 +72,30 @@ order_as_before zero zero false is h other = rw (h refl refl) refl
 
 -- ---- a contract that is an outcome
 
-module _ {R A D S N : Type 0} (size : S → N) (was is : N → Decision R) (answers : Decision R → A)
-    (writes : R → D → D → Type 0) (one : WritesOne writes) (old : D) (ten : A)
-    (same : (n : N) → (answers (was n) ≡ ten → ⊥) → is n ≡ was n) where
-  pub outcome_as_before : AsBefore size ten
-      (λ scratch scratch' new answer. Outcome (was (size scratch)) answers writes old new scratch scratch' answer)
-      (λ scratch scratch' new answer. Outcome (is (size scratch)) answers writes old new scratch scratch' answer)
+module _ {R A D S N : Type 0} (size : S → N) (was is : N → Decision R) (answers : Decision R → Decision A)
+    (writes : R → D → D → Type 0) (one : WritesOne writes) (old : D) (ten : Refusal)
+    (same : (n : N) → (answers (was n) ≡ told (Err ten) → ⊥) → is n ≡ was n) where
+  pub outcome_as_before : AsBefore size (Err ten)
+      (λ scratch scratch' new (answer : Result A Refusal). Outcome (was (size scratch)) answers writes old new scratch
+      scratch' (told answer))
+      (λ scratch scratch' new answer. Outcome (is (size scratch)) answers writes old new scratch scratch' (told answer))
   outcome_as_before scratch scratch' other other' new new' answer answer' e not-ten o p =
-      let d = same (size scratch) (λ z. not-ten (o.answered ∙ z)) in
-      outcome_determines size is answers writes one old scratch scratch' other other' new new' answer answer' e
-      (subst (λ (d : Decision R). Outcome d answers writes old new scratch scratch' answer) (sym d) o) p
+      let d = same (size scratch) (λ z. not-ten (told_one answer (Err ten) (o.answered ∙ z))) in
+      let both = outcome_determines size is answers writes one old scratch scratch' other other' new new' (told answer)
+      (told answer') e
+      (subst (λ (d : Decision R). Outcome d answers writes old new scratch scratch' (told answer)) (sym d) o) p
+      in
+      (told_one answer answer' both.0, both.1)
 
 -- ---- restoration and line unsharp
 
 -- the answer 10 of a call that decides by a number
-ten_answered : {n : ℕ} (s : SnappedDirection) → n ≡ 10 → restoration_answer (decided_along n s) ≡ Refused 10
-ten_answered (Found d) e = ap (λ (n : ℕ). restoration_answer (decided n d)) e
-ten_answered Nothing e = ap Refused e
+abbrev ten : Decision RestorationMetadata
+ten = refuses 10
+
+ten_answered : {n : ℕ} (s : Option RasterDirection4) → n ≡ 10 → map_found metadata_of (decided_along n s) ≡ ten
+ten_answered (Some d) e = ap (λ (n : ℕ). map_found metadata_of (decided n d)) e
+ten_answered None e = ap (λ (n : ℕ). map_found metadata_of (refuses n)) e
 
 module _ (src : Gray8) (f : LineFilter) where
   abbrev w : ℕ
@@ -96,7 +106,7 @@ module _ (src : Gray8) (f : LineFilter) where
 
   -- the number of a call whose pictures have a refusal, where what is lent was and is too short by a test each
   same_number : (pictures : ℕ) (was is : Bool) → (pictures ≡ 0 → was ≡ false → is ≡ false)
-      → (restoration_answer (decided_along (in_order pictures (f.refusal w h) was) f.direction) ≡ Refused 10 → ⊥)
+      → (map_found metadata_of (decided_along (in_order pictures (f.refusal w h) was) f.direction) ≡ ten → ⊥)
       → decided_along (in_order pictures (f.refusal w h) is) f.direction
       ≡ decided_along (in_order pictures (f.refusal w h) was) f.direction
   same_number pictures was is enough not-ten =
@@ -104,7 +114,7 @@ module _ (src : Gray8) (f : LineFilter) where
       (order_as_before pictures (f.refusal w h) was is enough (λ e. not-ten (ten_answered f.direction e)))
 
   module _ (dst : Gray8) where
-    pub filter_as_before : (n : ℕ) → (restoration_answer (filter_decision_before src dst f n) ≡ Refused 10 → ⊥)
+    pub filter_as_before : (n : ℕ) → (map_found metadata_of (filter_decision_before src dst f n) ≡ ten → ⊥)
         → filter_decision src dst f n ≡ filter_decision_before src dst f n
     unfolding filter_refusal
     filter_as_before n =
@@ -113,13 +123,13 @@ module _ (src : Gray8) (f : LineFilter) where
         dst.stride) (ltb n (scratch_before w h)) (ltb n (scratch_needed w h))
         (λ e. let l : Laid (length src.bytes) w h src.stride = (laid_pair e).source in long_enough l n)
 
-    pub filtered_as_before : AsBefore length (Refused 10)
+    pub filtered_as_before : AsBefore length (Err LentTooSmall)
         (λ scratch scratch' new answer. FilteredBefore src dst new f scratch scratch' answer)
         (λ scratch scratch' new answer. Filtered src dst new f scratch scratch' answer)
     filtered_as_before =
-        outcome_as_before length (filter_decision_before src dst f) (filter_decision src dst f) restoration_answer
+        outcome_as_before length (filter_decision_before src dst f) (filter_decision src dst f) (map_found metadata_of)
         (FilterWrites src dst.stride f.kernel) (filter_one src dst.stride f.kernel) dst.bytes
-        (Refused 10) filter_as_before
+        LentTooSmall filter_as_before
 
   -- ---- the estimate call
 
@@ -128,7 +138,7 @@ module _ (src : Gray8) (f : LineFilter) where
     dst-short = ltb (length old) (w * h)
 
     pub estimate_as_before : (n : ℕ)
-        → (restoration_answer (estimate_decision_before src (length old) f n) ≡ Refused 10 → ⊥)
+        → (map_found metadata_of (estimate_decision_before src (length old) f n) ≡ ten → ⊥)
         → estimate_decision src (length old) f n ≡ estimate_decision_before src (length old) f n
     unfolding estimate_refusal
     estimate_as_before n =
@@ -137,10 +147,10 @@ module _ (src : Gray8) (f : LineFilter) where
         (λ e short. or_false_intro (or_false_left dst-short (ltb n (scratch_before w h)) short)
         (long_enough (laid e) n (or_false_right dst-short (ltb n (scratch_before w h)) short)))
 
-    pub estimates_as_before : AsBefore length (Refused 10)
+    pub estimates_as_before : AsBefore length (Err LentTooSmall)
         (λ scratch scratch' new answer. EstimateWrittenBefore src old new f scratch scratch' answer)
         (λ scratch scratch' new answer. EstimateWritten src old new f scratch scratch' answer)
     estimates_as_before =
         outcome_as_before length (estimate_decision_before src (length old) f) (estimate_decision src (length old) f)
-        restoration_answer (EstimateWrites src f.kernel) (estimate_one src f.kernel) old (Refused 10)
+        (map_found metadata_of) (EstimateWrites src f.kernel) (estimate_one src f.kernel) old LentTooSmall
         estimate_as_before

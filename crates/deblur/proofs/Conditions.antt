@@ -16,8 +16,8 @@ use Rattle.image.proofs.Conditions.{Numbered, match_none, match_test, match_unle
 use Rattle.image.proofs.Conditions.{layout_matches, layout_numbered, pair_matches, pair_numbered}
 use Rattle.image.proofs.Pair.{accepted_pair}
 use Rattle.image.specs.Refusal.{pair_refusal}
-use Rattle.raster.specs.Direction.{is_found}
-use Rattle.raster.specs.declared.direction.SnappedDirection.{SnappedDirection}
+use Rattle.std.specs.Prelude.{Option, is_some}
+use Rattle.raster.specs.declared.direction.RasterDirection4.{RasterDirection4}
 use Rattle.raster.proofs.Snapped.{not_found_iff}
 use Rattle.line.specs.Kernel.{max_iterations, max_blur_length}
 use Rattle.numbers.proofs.Test.{eqb_iff, ltb_iff, or_iff}
@@ -126,7 +126,7 @@ module _ (width height : ℕ) where
 
 -- ---- the calls
 
-along_exactly : {rs : List Refusal} {n : ℕ} → FirstMatch rs n → (s : SnappedDirection)
+along_exactly : {rs : List Refusal} {n : ℕ} → FirstMatch rs n → (s : Option RasterDirection4)
     → Exactly rs (number_of (decided_along n s))
 along_exactly m s = exactly (rw (number_along _ s) m)
 
@@ -228,7 +228,7 @@ module _ (len width height stride dst_len settings scratch_len : ℕ) where
 -- ---- settings that are not refused have a direction, so that no call is refused with 0
 
 abbrev Directed : LineFilter → Type 0
-Directed f = (width height : ℕ) → f.refusal width height ≡ 0 → is_found f.direction ≡ true
+Directed f = (width height : ℕ) → f.refusal width height ≡ 0 → is_some f.direction ≡ true
 
 pub restoration_directed : (config : VanCittertConfig) → Directed (restoration_of config)
 restoration_directed config width height e = (restoration_taken width height config e).direction_found

@@ -4,13 +4,14 @@ use mathlib.Core.List.{List}
 use lib.IntN.{ℤ, pos}
 use lib.ListN.{length}
 use Rattle.numbers.specs.Scalar.{clamp_byte}
-use Rattle.image.specs.Call.{Gray8}
+use Rattle.image.specs.Call.{Gray8, told, map_found}
+use Rattle.image.proofs.Told.{told_one}
 use Rattle.image.specs.Determined.{WritesOne, Determines}
 use Rattle.image.proofs.Determined.{outcome_determines, painted_one}
 use Rattle.line.specs.declared.kernel.LineKernel.{LineKernel}
 use Rattle.deblur.specs.Settings.{LineFilter}
 use Rattle.deblur.specs.Calls.{
-  restoration_answer,
+  metadata_of,
   last_estimate,
   filter_decision,
   FilterWrites,
@@ -29,12 +30,18 @@ estimate_one src kernel = painted_one (pos 0) (last_estimate src kernel) src.wid
 
 pub filtered_determined : (src dst : Gray8) (f : LineFilter)
     → Determines length (λ scratch scratch' new answer. Filtered src dst new f scratch scratch' answer)
-filtered_determined src dst f =
-    outcome_determines length (filter_decision src dst f) restoration_answer (FilterWrites src dst.stride f.kernel)
-    (filter_one src dst.stride f.kernel) dst.bytes
+filtered_determined src dst f scratch scratch' other other' new new' answer answer' e o p =
+    let one = outcome_determines length (filter_decision src dst f) (map_found metadata_of)
+    (FilterWrites src dst.stride f.kernel) (filter_one src dst.stride f.kernel) dst.bytes scratch scratch' other other'
+    new new' (told answer) (told answer') e o p
+    in
+    (told_one answer answer' one.0, one.1)
 
 pub estimates_determined : (src : Gray8) (old : List ℤ) (f : LineFilter)
     → Determines length (λ scratch scratch' new answer. EstimateWritten src old new f scratch scratch' answer)
-estimates_determined src old f =
-    outcome_determines length (estimate_decision src (length old) f) restoration_answer (EstimateWrites src f.kernel)
-    (estimate_one src f.kernel) old
+estimates_determined src old f scratch scratch' other other' new new' answer answer' e o p =
+    let one = outcome_determines length (estimate_decision src (length old) f) (map_found metadata_of)
+    (EstimateWrites src f.kernel) (estimate_one src f.kernel) old scratch scratch' other other'
+    new new' (told answer) (told answer') e o p
+    in
+    (told_one answer answer' one.0, one.1)

@@ -21,7 +21,7 @@ use Rattle.line.specs.declared.kernel.LineKernel.{LineKernel}
 use Rattle.line.specs.Kernel.{LineAsked, LineRestored, bytes_on, line_at as estimate_at}
 use Rattle.line.proofs.LineWindow.{border_of_line, after_same}
 use Rattle.deblur.specs.Scatter.{ScatterAsked, Scattered}
-use Rattle.deblur.specs.Lines.{kernel_on, kernel_estimate, SourceAsked, LinesAsked, ScanLineRestored}
+use Rattle.deblur.specs.Lines.{kernel_on, kernel_estimate, LinesAsked, ScanLineRestored}
 use Rattle.deblur.specs.Picture.{samples}
 use Rattle.deblur.specs.Refusal.{scratch_needed}
 use Rattle.deblur.proofs.PictureLaws.{samples_byte, estimate_on_holds, lines_step}
@@ -131,14 +131,6 @@ module _ {A : Type 0} {z : A} (g : ℤ → A) (src : List ℕ) (w h stride dst_s
         (λ j _ _. refl)
 
 -- ---- one turn: line k of the lines that a loop counts
-
--- what its restoration asks, of a scratch that has kept its length
-pub turn_asked : {len w h stride dst_len dst_stride : ℕ} {kernel : LineKernel} {scratch_len : ℕ} (d : RasterDirection4)
-    → LinesAsked len w h stride dst_len dst_stride kernel scratch_len → {count k : ℕ} → count ≡ line_count d w h
-    → k < count → {lent : ℕ} → lent ≡ scratch_len → SourceAsked len w h stride kernel lent × (k < line_count d w h)
-turn_asked d asked is below e =
-    let s = asked.source in
-    (record { walked = s.walked; taken = s.taken; room = rw e s.room }, rw is at below)
 
 -- the line is restored, and s is the step to its next place in the destination
 pub record Turn (src : List ℕ) (w h stride dst_len dst_stride : ℕ) (d : RasterDirection4) (kernel : LineKernel) (k s : ℕ)

@@ -1,4 +1,4 @@
--- What the lines of a picture are for its estimates: the samples of line k as bytes, and their bound; the estimate at a
+-- What the lines of a picture are for its estimates: the samples of line k as bytes; the estimate at a
 -- pixel by its line and its place there; a destination written line by line (`lines_step`).
 use mathlib.Core.Path.{◌≡◌, refl, sym, ap, ◌∙◌, subst}
 use mathlib.Core.Bool.{true}
@@ -17,7 +17,6 @@ use Rattle.raster.specs.declared.direction.RasterDirection4.{RasterDirection4}
 use Rattle.raster.proofs.Place.{one_line, byte_at}
 use Rattle.raster.proofs.Scatter.{start_byte, lines_below, line_pixels_iff, line_comb, lines_next, comb_place}
 use Rattle.line.specs.Line.{after}
-use Rattle.line.proofs.LineWindow.{Bounded}
 use Rattle.deblur.specs.Picture.{samples, estimate_on, estimate}
 
 -- ---- the samples of line k
@@ -25,12 +24,6 @@ use Rattle.deblur.specs.Picture.{samples, estimate_on, estimate}
 pub samples_byte : (src : List ℕ) (d : RasterDirection4) (w h stride k i : ℕ) → 1 ≤ stride → i < line_length d w h k
     → samples (pixel src stride) d w k i ≡ pos (get_or src (start_byte d w stride k + i * place_step d stride) 0)
 samples_byte src d w h stride k i hs hi = ap (λ (j : ℕ). pos (get_or src j 0)) (byte_at d w h stride k i hs hi)
-
-pub samples_within : (px : ℕ → ℕ → ℕ) (d : RasterDirection4) (w h k : ℕ) → 1 ≤ w → k < line_count d w h
-    → ((c r : ℕ) → c < w → r < h → px c r ≤ 255) → Bounded (line_length d w h k) 255 (samples px d w k)
-samples_within px d w h k hw hk bytes i hi =
-    let a = (one_line d w h hw).of_place k i hk hi in
-    bytes _ _ a.col a.row
 
 -- ---- the estimate at a pixel
 

@@ -4,18 +4,20 @@ use native.Mathlib.Nat.{pos_of_ne-zero, zero-lt-suc}
 use native.Mathlib.Omega.{arith}
 use mathlib.Core.Bool.{Bool, true, false, not, ◌||◌, or-true}
 use mathlib.Core.Logic.{◌⊎◌, inl, inr, ⊎_elim}
-use mathlib.Core.Path.{◌≡◌, refl}
+use mathlib.Core.Path.{◌≡◌, refl, sym, ap}
 use lib.Dec.{eqb, ltb}
 use lib.Ieee.{Float}
 use borrow.Author.Tests.{eq-eqb, ne_eqb, lt-ltb, le-ltb, eqb-false, ltb-false, not-false}
 use Rattle.numbers.proofs.Nat.{even_or_odd}
 use Rattle.numbers.proofs.Test.{or_false_intro, or_false_left, or_false_right}
 use Rattle.floats.specs.Factor.{max_relaxation, max_gain, within}
+use Rattle.image.specs.Call.{decided}
 use Rattle.image.specs.Refusal.{layout_refusal, pair_refusal, first_refusal}
 use Rattle.image.proofs.Chain.{cond_zero, cond_left, first_zero, first_own}
-use Rattle.image.proofs.Refusal.{laid, accepted}
+use Rattle.image.proofs.Accepted.{laid, accepted}
 use Rattle.image.proofs.Pair.{laid_pair}
-use Rattle.raster.specs.Direction.{from_angle, is_found, angle_refusal}
+use Rattle.std.specs.Prelude.{is_some}
+use Rattle.raster.specs.Direction.{from_angle, angle_refusal}
 use Rattle.line.specs.Kernel.{max_iterations, max_blur_length}
 use Rattle.deblur.specs.declared.DirectionalUnsharpConfig.{DirectionalUnsharpConfig}
 use Rattle.deblur.specs.declared.VanCittertConfig.{VanCittertConfig}
@@ -24,6 +26,10 @@ use Rattle.deblur.specs.Refusal.{iterated_refusal, scratch_needed}
 use Rattle.deblur.specs.Refusal.{line_refusal, restoration_refusal, unsharp_refusal, scratch_short, lent_refusal}
 use Rattle.deblur.specs.Refusal.{in_order, filter_refusal, estimate_refusal, LengthTaken, IterationsTaken}
 use Rattle.deblur.specs.Refusal.{RestorationTaken, UnsharpTaken, FilterAccepted, EstimateAccepted}
+
+-- a check's answer, by its number
+pub told_by : {n number : ℕ} → n ≡ number → decided {R = Unit {0}} number tt ≡ decided n tt
+told_by e = ap (λ (k : ℕ). decided {R = Unit {0}} k tt) (sym e)
 
 -- ---- 7, the blur length
 
@@ -119,17 +125,17 @@ module _ (relaxation : Float) (iterations : ℕ) where
       (factor_taken max_relaxation relaxation a.0, iterations_taken iterations a.1)
 
 module _ (width height : ℕ) where
-  pub line_0 : {L : ℕ} (angle : Float) → LengthTaken width height L → is_found (from_angle angle) ≡ true
+  pub line_0 : {L : ℕ} (angle : Float) → LengthTaken width height L → is_some (from_angle angle) ≡ true
       → line_refusal width height L angle ≡ 0
   line_0 {L} angle t f = first_0 (blur_length_0 width height L t) (rw f)
 
   -- settings whose first refusal is the lines'
   line_taken : (L : ℕ) (angle : Float) (next : ℕ) → first_refusal (line_refusal width height L angle) next ≡ 0
-      → LengthTaken width height L × (is_found (from_angle angle) ≡ true) × (next ≡ 0)
+      → LengthTaken width height L × (is_some (from_angle angle) ≡ true) × (next ≡ 0)
   line_taken L angle next e =
       let a = first_zero (line_refusal width height L angle) next e in
       let b = first_zero (blur_length_refusal width height L) (angle_refusal (from_angle angle)) a.0 in
-      (length_taken width height L b.0, cond_left (is_found (from_angle angle)) 7 (zero-lt-suc 6) b.1, a.1)
+      (length_taken width height L b.0, cond_left (is_some (from_angle angle)) 7 (zero-lt-suc 6) b.1, a.1)
 
   pub restoration_taken : (config : VanCittertConfig) → restoration_refusal width height config ≡ 0
       → RestorationTaken width height config
@@ -155,15 +161,9 @@ module _ (pictures settings : ℕ) (short : Bool) where
   pub order_pictures : (pictures ≡ 0 → ⊥) → in_order pictures settings short ≡ pictures
   order_pictures h = first_own pictures _ h
 
-  pub order_settings : pictures ≡ 0 → (settings ≡ 0 → ⊥) → in_order pictures settings short ≡ settings
-  order_settings e h = rw e (first_own settings _ h)
-
   -- once the pictures are accepted: the settings, then what is lent
   pub order_lent : pictures ≡ 0 → in_order pictures settings short ≡ first_refusal settings (lent_refusal short)
   order_lent e = rw e
-
-  pub order_10 : pictures ≡ 0 → settings ≡ 0 → short ≡ true → in_order pictures settings short ≡ 10
-  order_10 e d t = rw (e, d, t)
 
   pub order_0 : pictures ≡ 0 → settings ≡ 0 → short ≡ false → in_order pictures settings short ≡ 0
   order_0 e d t = rw (e, d, t)
@@ -190,10 +190,6 @@ module _ (len width height stride dst_len dst_width dst_height dst_stride settin
 
   abbrev filtered : ℕ
   filtered = filter_refusal len width height stride dst_len dst_width dst_height dst_stride settings scratch_len
-
-  pub filter_pictures : (pair ≡ 0 → ⊥) → filtered ≡ pair
-  unfolding filter_refusal
-  filter_pictures = order_pictures pair settings (scratch_short width height scratch_len)
 
   pub filter_lent : pair ≡ 0 → filtered ≡ first_refusal settings (lent_refusal (scratch_short width height scratch_len))
   unfolding filter_refusal
@@ -224,10 +220,6 @@ module _ (len width height stride dst_len settings scratch_len : ℕ) where
 
   abbrev estimated : ℕ
   estimated = estimate_refusal len width height stride dst_len settings scratch_len
-
-  pub estimate_pictures : (layout ≡ 0 → ⊥) → estimated ≡ layout
-  unfolding estimate_refusal
-  estimate_pictures = order_pictures layout settings short
 
   pub estimate_lent : layout ≡ 0 → estimated ≡ first_refusal settings (lent_refusal short)
   unfolding estimate_refusal

@@ -14,7 +14,10 @@ use Rattle.image.proofs.Pair.{destination_laid}
 use Rattle.image.proofs.Same.{layout_same, pair_same, ends_alike}
 use Rattle.raster.specs.declared.direction.RasterDirection4.{RasterDirection4}
 use Rattle.line.specs.declared.kernel.LineKernel.{LineKernel}
-use Rattle.deblur.specs.declared.RestorationAnswer.{RestorationAnswer}
+use Rattle.deblur.specs.declared.RestorationMetadata.{RestorationMetadata}
+use Rattle.image.specs.declared.refusal.Refusal.{Refusal}
+use Rattle.image.proofs.Told.{told_one}
+use Rattle.std.specs.Prelude.{Result}
 use Rattle.deblur.specs.Calls.{
   decided_along,
   last_estimate,
@@ -56,18 +59,21 @@ module _ {a b : Gray8} (same : SamePicture a b) where
       (filter_refusal_same (length dst'.bytes) dst'.width dst'.height dst'.stride f.refusal n'))
 
   pub filtered_same : {dst dst' : Gray8} {new new' : List ℕ} (f : LineFilter)
-      {scratch scratch₁ scratch' scratch₁' : List ℤ} {answer answer' : RestorationAnswer} → SameLayout dst dst'
+      {scratch scratch₁ scratch' scratch₁' : List ℤ} {answer answer' : Result RestorationMetadata Refusal} → SameLayout dst dst'
       → length scratch ≡ length scratch' → Filtered a dst new f scratch scratch₁ answer
       → Filtered b dst' new' f scratch' scratch₁' answer'
       → SameEnd (filter_decision a dst f (length scratch)) 0 a.width a.height dst.stride new new' answer answer'
-  filtered_same f alike lent =
+  filtered_same f alike lent o o' =
+      let ends =
       ends_alike (λ d c r. clamp_byte (last_estimate a f.kernel d c r))
       (λ d c r. clamp_byte (last_estimate b f.kernel d c r)) same (filter_same f alike lent) alike.same_stride
       alike.same_length
       (λ d is.
       let t = filter_accepted _ _ _ _ _ _ _ _ _ _ (along_accepts _ f.direction d is).0 in
       destination_laid t.pictures)
-      (λ d _ c r hc hr. ap clamp_byte (last_same f.kernel d c r hc hr))
+      (λ d _ c r hc hr. ap clamp_byte (last_same f.kernel d c r hc hr)) o o'
+      in
+      record { same_answer = told_one _ _ ends.same_answer; same_pixels = ends.same_pixels }
 
   -- ---- the estimate call
 
@@ -77,14 +83,17 @@ module _ {a b : Gray8} (same : SamePicture a b) where
   estimate_call_same f room lent = rw (room, lent, layout_same same, same.same_width, same.same_height)
 
   pub estimates_same : {old old' new new' : List ℤ} (f : LineFilter) {scratch scratch₁ scratch' scratch₁' : List ℤ}
-      {answer answer' : RestorationAnswer} → length old ≡ length old' → length scratch ≡ length scratch'
+      {answer answer' : Result RestorationMetadata Refusal} → length old ≡ length old' → length scratch ≡ length scratch'
       → EstimateWritten a old new f scratch scratch₁ answer → EstimateWritten b old' new' f scratch' scratch₁' answer'
       → SameEnd (estimate_decision a (length old) f (length scratch)) (pos 0) a.width a.height a.width new new'
       answer answer'
-  estimates_same f room lent =
+  estimates_same f room lent o o' =
+      let ends =
       ends_alike (last_estimate a f.kernel) (last_estimate b f.kernel) same (estimate_call_same f room lent)
       same.same_width room
       (λ d is.
       let t = estimate_accepted _ _ _ _ _ _ _ (along_accepts _ f.direction d is).0 in
       (walked_tight t.picture t.dst_least).laid)
-      (λ d _ c r hc hr. last_same f.kernel d c r hc hr)
+      (λ d _ c r hc hr. last_same f.kernel d c r hc hr) o o'
+      in
+      record { same_answer = told_one _ _ ends.same_answer; same_pixels = ends.same_pixels }

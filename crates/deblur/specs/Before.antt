@@ -1,11 +1,12 @@
 -- Document 02, K5: "with the same picture as before on every input accepted before". The contracts of the line filters
 -- with 10 as it was, where it asked for document 01's 3 × width × height, and what it is for a call to end as it did.
-use Rattle.std.specs.Prelude.{ℕ, ◌*◌, ◌||◌, List, ◌≡◌, ltb, ℤ, length}
-use Rattle.image.specs.Call.{Gray8, Decision, Outcome}
+use Rattle.std.specs.Prelude.{ℕ, ◌*◌, ◌||◌, List, ◌≡◌, ltb, ℤ, length, Result}
+use Rattle.image.specs.Call.{Gray8, Decision, told, map_found, Outcome}
+use Rattle.image.specs.declared.refusal.Refusal.{Refusal}
 use Rattle.image.specs.Refusal.{layout_refusal, pair_refusal}
 use Rattle.raster.specs.declared.direction.RasterDirection4.{RasterDirection4}
-use Rattle.deblur.specs.declared.RestorationAnswer.{RestorationAnswer}
-use Rattle.deblur.specs.Calls.{restoration_answer, decided_along, FilterWrites, EstimateWrites}
+use Rattle.deblur.specs.declared.RestorationMetadata.{RestorationMetadata}
+use Rattle.deblur.specs.Calls.{metadata_of, decided_along, FilterWrites, EstimateWrites}
 use Rattle.deblur.specs.Refusal.{in_order}
 use Rattle.deblur.specs.Settings.{LineFilter}
 
@@ -25,10 +26,10 @@ filter_number_before src dst f scratch_len =
 abbrev pub filter_decision_before : Gray8 → Gray8 → LineFilter → ℕ → Decision RasterDirection4
 filter_decision_before src dst f scratch_len = decided_along (filter_number_before src dst f scratch_len) f.direction
 
-abbrev pub FilteredBefore : Gray8 → Gray8 → List ℕ → LineFilter → List ℤ → List ℤ → RestorationAnswer → Type 0
+abbrev pub FilteredBefore : Gray8 → Gray8 → List ℕ → LineFilter → List ℤ → List ℤ → Result RestorationMetadata Refusal → Type 0
 FilteredBefore src dst new f scratch scratch' answer =
-    Outcome (filter_decision_before src dst f (length scratch)) restoration_answer
-    (FilterWrites src dst.stride f.kernel) dst.bytes new scratch scratch' answer
+    Outcome (filter_decision_before src dst f (length scratch)) (map_found metadata_of)
+    (FilterWrites src dst.stride f.kernel) dst.bytes new scratch scratch' (told answer)
 
 -- ---- the estimate call
 
@@ -42,10 +43,10 @@ abbrev pub estimate_decision_before : Gray8 → ℕ → LineFilter → ℕ → D
 estimate_decision_before src dst_len f scratch_len =
     decided_along (estimate_number_before src dst_len f scratch_len) f.direction
 
-abbrev pub EstimateWrittenBefore : Gray8 → List ℤ → List ℤ → LineFilter → List ℤ → List ℤ → RestorationAnswer → Type 0
+abbrev pub EstimateWrittenBefore : Gray8 → List ℤ → List ℤ → LineFilter → List ℤ → List ℤ → Result RestorationMetadata Refusal → Type 0
 EstimateWrittenBefore src old new f scratch scratch' answer =
-    Outcome (estimate_decision_before src (length old) f (length scratch)) restoration_answer
-    (EstimateWrites src f.kernel) old new scratch scratch' answer
+    Outcome (estimate_decision_before src (length old) f (length scratch)) (map_found metadata_of)
+    (EstimateWrites src f.kernel) old new scratch scratch' (told answer)
 
 -- ---- what it is to end as before
 

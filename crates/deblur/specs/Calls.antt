@@ -1,28 +1,32 @@
 -- What each public call answers and writes. `Filtered` and `EstimateWritten` are the contracts' facts: over the source,
 -- the destination and what it is after, what the settings come to, the scratch before and after, and the answer.
-use Rattle.std.specs.Prelude.{ℕ, List, ℤ, pos, length}
+use Rattle.std.specs.Prelude.{ℕ, List, ℤ, pos, length, Option, Some, None, Result}
 use Rattle.numbers.specs.Scalar.{clamp_byte}
 use Rattle.numbers.specs.Written.{Painted}
-use Rattle.image.specs.Call.{Gray8, Decision, accepts, refuses, decided, Outcome}
+use Rattle.image.specs.Call.{Gray8, Decision, refuses, decided, told, map_found, Outcome}
+use Rattle.image.specs.declared.refusal.Refusal.{Refusal}
 use Rattle.raster.specs.declared.direction.RasterDirection4.{RasterDirection4}
-use Rattle.raster.specs.declared.direction.SnappedDirection.{SnappedDirection}
-use Rattle.raster.specs.declared.direction.SnappedDirection.TheVariants.{Found, Nothing}
 use Rattle.line.specs.declared.kernel.LineKernel.{LineKernel}
-use Rattle.deblur.specs.declared.RestorationAnswer.{RestorationAnswer}
-use Rattle.deblur.specs.declared.RestorationAnswer.TheVariants.{Done, Refused}
+use Rattle.deblur.specs.declared.LinePlan.{LinePlan}
+use Rattle.deblur.specs.declared.RestorationMetadata.{RestorationMetadata}
 use Rattle.deblur.specs.Lines.{kernel_estimate}
 use Rattle.deblur.specs.Refusal.{filter_refusal, estimate_refusal}
 use Rattle.deblur.specs.Settings.{LineFilter}
 
--- the call finds the direction that its lines take
-abbrev pub restoration_answer : Decision RasterDirection4 → RestorationAnswer
-restoration_answer (accepts d) = Done (record { raster_direction = d })
-restoration_answer (refuses number) = Refused number
+-- what a call answers of the direction that its lines take
+abbrev pub metadata_of : RasterDirection4 → RestorationMetadata
+metadata_of d = record { raster_direction = d }
 
 -- the direction, by a refusal's number; where there is none, the number is 7 or one before it, and never 0
-abbrev pub decided_along : ℕ → SnappedDirection → Decision RasterDirection4
-decided_along number (Found d) = decided number d
-decided_along number Nothing = refuses number
+abbrev pub decided_along : ℕ → Option RasterDirection4 → Decision RasterDirection4
+decided_along number (Some d) = decided number d
+decided_along number None = refuses number
+
+-- the direction of the lines with what is done on each, by the refusal of the settings on a picture of these sides
+abbrev pub plan_of : LineFilter → ℕ → ℕ → Decision LinePlan
+plan_of f width height =
+    map_found (λ d. record { direction = d; kernel = f.kernel })
+    (decided_along (f.refusal width height) f.direction)
 
 -- the last estimate at the pixel (c, r)
 abbrev pub last_estimate : Gray8 → LineKernel → RasterDirection4 → ℕ → ℕ → ℤ
@@ -44,10 +48,10 @@ abbrev pub FilterWrites : Gray8 → ℕ → LineKernel → RasterDirection4 → 
 FilterWrites src dst_stride kernel d old new =
     Painted 0 (λ c r. clamp_byte (last_estimate src kernel d c r)) src.width src.height dst_stride old new
 
-abbrev pub Filtered : Gray8 → Gray8 → List ℕ → LineFilter → List ℤ → List ℤ → RestorationAnswer → Type 0
+abbrev pub Filtered : Gray8 → Gray8 → List ℕ → LineFilter → List ℤ → List ℤ → Result RestorationMetadata Refusal → Type 0
 Filtered src dst new f scratch scratch' answer =
-    Outcome (filter_decision src dst f (length scratch)) restoration_answer (FilterWrites src dst.stride f.kernel)
-    dst.bytes new scratch scratch' answer
+    Outcome (filter_decision src dst f (length scratch)) (map_found metadata_of)
+    (FilterWrites src dst.stride f.kernel) dst.bytes new scratch scratch' (told answer)
 
 -- ---- the estimate call
 
@@ -64,7 +68,7 @@ abbrev pub EstimateWrites : Gray8 → LineKernel → RasterDirection4 → List �
 EstimateWrites src kernel d old new =
     Painted (pos 0) (last_estimate src kernel d) src.width src.height src.width old new
 
-abbrev pub EstimateWritten : Gray8 → List ℤ → List ℤ → LineFilter → List ℤ → List ℤ → RestorationAnswer → Type 0
+abbrev pub EstimateWritten : Gray8 → List ℤ → List ℤ → LineFilter → List ℤ → List ℤ → Result RestorationMetadata Refusal → Type 0
 EstimateWritten src old new f scratch scratch' answer =
-    Outcome (estimate_decision src (length old) f (length scratch)) restoration_answer (EstimateWrites src f.kernel)
-    old new scratch scratch' answer
+    Outcome (estimate_decision src (length old) f (length scratch)) (map_found metadata_of)
+    (EstimateWrites src f.kernel) old new scratch scratch' (told answer)

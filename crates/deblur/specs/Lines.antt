@@ -3,10 +3,11 @@
 use Rattle.std.specs.Prelude.{◌≡◌, cond, List, ℕ, ◌^◌, ◌≤◌, ◌<◌, eqb, ℤ}
 use Rattle.image.specs.Picture.{pixel}
 use Rattle.image.specs.Refusal.{Laid}
-use Rattle.raster.specs.Lines.{line_length, scan_line_at}
+use Rattle.raster.specs.Lines.{line_length, scan_line_at, byte_of, place_step}
 use Rattle.raster.specs.declared.direction.RasterDirection4.{RasterDirection4}
 use Rattle.raster.specs.declared.lines.ScanLine.{ScanLine}
 use Rattle.line.specs.declared.kernel.LineKernel.{LineKernel}
+use Rattle.line.specs.declared.kernel.LinePlaces.{LinePlaces}
 use Rattle.line.specs.Kernel.{KernelAsked, line_at as estimate_at}
 use Rattle.deblur.specs.Picture.{estimate_on, estimate}
 use Rattle.deblur.specs.Refusal.{scratch_needed}
@@ -24,6 +25,11 @@ abbrev pub kernel_estimate : List ℕ → ℕ → ℕ → ℕ → RasterDirectio
 kernel_estimate src width height stride d kernel c r =
     estimate (pixel src stride) d width height kernel.border kernel.blur_length kernel.q kernel.iterations
     c r
+
+-- where a line lies in a picture of this stride
+abbrev pub places_of : ScanLine → RasterDirection4 → ℕ → LinePlaces
+places_of line d stride =
+    record { start = byte_of stride line.col line.row; step = place_step d stride; len = line.len }
 
 -- ---- what the work along a direction asks
 

@@ -1,9 +1,9 @@
 -- Document 01, "Refusals, first match wins", for the line filters: a test for each number, which is 0 where nothing is
 -- refused, and the tests in the document's order.
-use Rattle.std.specs.Prelude.{ℕ, ◌*◌, ◌%◌, ◌≤◌, max, Bool, true, not, cond, ◌||◌, ◌≡◌, eqb, ltb, Float}
+use Rattle.std.specs.Prelude.{ℕ, ◌*◌, ◌%◌, ◌≤◌, max, Bool, true, not, cond, ◌||◌, ◌≡◌, eqb, ltb, Float, is_some}
 use Rattle.floats.specs.Factor.{max_relaxation, max_gain, within}
 use Rattle.image.specs.Refusal.{layout_refusal, pair_refusal, first_refusal, Laid, LaidPair}
-use Rattle.raster.specs.Direction.{from_angle, is_found, angle_refusal}
+use Rattle.raster.specs.Direction.{from_angle, angle_refusal}
 use Rattle.line.specs.Kernel.{max_iterations, max_blur_length}
 use Rattle.deblur.specs.declared.VanCittertConfig.{VanCittertConfig}
 use Rattle.deblur.specs.declared.DirectionalUnsharpConfig.{DirectionalUnsharpConfig}
@@ -89,14 +89,14 @@ pub record IterationsTaken (iterations : ℕ) : Type 0 where
 -- `restoration_refusal` is 0 exactly there.
 pub record RestorationTaken (width height : ℕ) (config : VanCittertConfig) : Type 0 where
   pub length_taken : LengthTaken width height config.blur_length
-  pub direction_found : is_found (from_angle config.theta_radians) ≡ true
+  pub direction_found : is_some (from_angle config.theta_radians) ≡ true
   pub relaxation_taken : within max_relaxation config.relaxation ≡ true
   pub iterations_taken : IterationsTaken config.iterations
 
 -- `unsharp_refusal` is 0 exactly there.
 pub record UnsharpTaken (width height : ℕ) (config : DirectionalUnsharpConfig) : Type 0 where
   pub length_taken : LengthTaken width height config.blur_length
-  pub direction_found : is_found (from_angle config.theta_radians) ≡ true
+  pub direction_found : is_some (from_angle config.theta_radians) ≡ true
   pub gain_taken : within max_gain config.gain ≡ true
 
 -- An accepted restoration or line unsharp: `filter_refusal` is 0 exactly there.

@@ -1,13 +1,13 @@
 -- Document 01, "Kept, and written anew": configurations that hold their floats, each with its defaults on the type (the
 -- Rust's), and what they come to along lines.
-use Rattle.std.specs.Prelude.{ℕ, Float}
+use Rattle.std.specs.Prelude.{ℕ, Float, Option}
 use Rattle.std.specs.Float.{binary64}
 use Rattle.std.specs.Float.Ieee.{of_bits}
 use Rattle.floats.specs.Factor.{rounded_q16}
 use Rattle.raster.specs.Direction.{from_angle}
 use Rattle.raster.specs.declared.border.LineBorderMode.{LineBorderMode}
 use Rattle.raster.specs.declared.border.LineBorderMode.TheVariants.{Replicate}
-use Rattle.raster.specs.declared.direction.SnappedDirection.{SnappedDirection}
+use Rattle.raster.specs.declared.direction.RasterDirection4.{RasterDirection4}
 use Rattle.line.specs.declared.kernel.LineKernel.{LineKernel}
 use Rattle.deblur.specs.declared.VanCittertConfig.{VanCittertConfig}
 use Rattle.deblur.specs.declared.DirectionalUnsharpConfig.{DirectionalUnsharpConfig}
@@ -61,7 +61,7 @@ line_kernel L factor iterations border =
 -- refused have; and what is done on each
 pub record LineFilter : Type 0 where
   pub refusal : ℕ → ℕ → ℕ
-  pub direction : SnappedDirection
+  pub direction : Option RasterDirection4
   pub kernel : LineKernel
 
 abbrev pub restoration_of : VanCittertConfig → LineFilter

@@ -1,17 +1,17 @@
 // All lines of a direction of an accepted picture, for callers that have a direction: the calls along an angle, and the
 // whole job.
-ghost use Rattle.std.specs.Prelude.{◌≡◌, T, pos, length, ◌*◌, ◌≤◌};
+ghost use Rattle.std.specs.Prelude.{◌≡◌, T, length, ◌*◌, ◌≤◌};
 ghost use Rattle.floats.specs.Factor.{within};
 ghost use Rattle.image.specs.Refusal.{max_side, Laid};
-ghost use Rattle.numbers.specs.Scalar.{clamp_byte};
-ghost use Rattle.numbers.specs.Written.{Painted};
-ghost use Rattle.deblur.specs.Lines.{kernel_estimate, row_stride, AlongAsked};
+ghost use Rattle.image.specs.View.{seen};
+ghost use Rattle.deblur.specs.Calls.{FilterWrites, EstimateWrites};
+ghost use Rattle.deblur.specs.Lines.{row_stride, AlongAsked};
 ghost use Rattle.deblur.specs.Refusal.{scratch_needed};
 ghost use Rattle.deblur.specs.Settings.{line_kernel};
 
-use crate::lines::{estimate_lines_into, restore_lines_into};
+use crate::lines::write_lines;
+use image::Gray8View;
 use line::kernel::LineKernel;
-use numbers::max_usize;
 use raster::border::LineBorderMode;
 use raster::direction::RasterDirection4;
 
@@ -20,7 +20,7 @@ pub fn scratch_needed(width: usize, height: usize) -> usize
     requires { (width ≤ max_side) × (height ≤ max_side) }
     ensures { result ≡ scratch_needed width height }
 {
-    3 * max_usize(width, height)
+    3 * width.max(height)
 }
 
 // The kernel of a factor that is taken.
@@ -48,62 +48,44 @@ fn row_stride(width: usize, height: usize, stride: usize) -> usize
     if height == 1 { width } else { stride }
 }
 
-// The last estimates cut to 0..255, to the destination's pixels.
-pub fn restore_along(
-    data: &[u8],
-    width: usize,
-    height: usize,
-    stride: usize,
+// The last estimates cut to 0..255, to the destination's pixels: bytes and stride, since its sides are the source's.
+pub fn restore_along<'a>(
+    src: Gray8View<'a>,
     dst: &mut [u8],
     dst_stride: usize,
     direction: RasterDirection4,
     kernel: LineKernel,
     scratch: &mut [i32],
 )
-    requires { AlongAsked (length «data».now) width height stride kernel (length scratch.old)
-        × Laid (length dst.old) width height dst_stride }
-    ensures { Painted 0 (λ c r. clamp_byte
-        (kernel_estimate «data».now width height stride direction kernel c r)) width height dst_stride
-        dst.old dst.new }
+    requires asked { AlongAsked (length src.«data».now) src.width src.height src.stride kernel
+        (length scratch.old) }
+    requires laid_dst { Laid (length dst.old) src.width src.height dst_stride }
+    ensures { FilterWrites (seen src.entry) dst_stride kernel direction dst.old dst.new }
 {
-    restore_lines_into(
-        data,
-        width,
-        height,
-        row_stride(width, height, stride),
-        dst,
-        row_stride(width, height, dst_stride),
-        direction,
-        kernel,
-        scratch,
-    )
+    let rows = Gray8View {
+        stride: row_stride(src.width, src.height, src.stride),
+        ..src
+    };
+    let dst_stride = row_stride(src.width, src.height, dst_stride);
+    write_lines(rows, dst, dst_stride, direction, kernel, scratch)
 }
 
 // The last estimates as they are, to the destination's first width * height places, row by row.
-pub fn estimates_along(
-    data: &[u8],
-    width: usize,
-    height: usize,
-    stride: usize,
+pub fn estimates_along<'a>(
+    src: Gray8View<'a>,
     dst: &mut [i32],
     direction: RasterDirection4,
     kernel: LineKernel,
     scratch: &mut [i32],
 )
-    requires { AlongAsked (length «data».now) width height stride kernel (length scratch.old)
-        × (width * height ≤ length dst.old) }
-    ensures { Painted (pos 0) (kernel_estimate «data».now width height stride direction kernel) width
-        height width dst.old dst.new }
+    requires asked { AlongAsked (length src.«data».now) src.width src.height src.stride kernel
+        (length scratch.old) }
+    requires room { src.width * src.height ≤ length dst.old }
+    ensures { EstimateWrites (seen src.entry) kernel direction dst.old dst.new }
 {
-    estimate_lines_into(
-        data,
-        width,
-        height,
-        row_stride(width, height, stride),
-        dst,
-        width,
-        direction,
-        kernel,
-        scratch,
-    )
+    let rows = Gray8View {
+        stride: row_stride(src.width, src.height, src.stride),
+        ..src
+    };
+    write_lines(rows, dst, src.width, direction, kernel, scratch)
 }

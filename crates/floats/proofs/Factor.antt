@@ -13,7 +13,7 @@ use lib.Ieee.Order.{transfer}
 use lib.Ieee.Scale.{round_same}
 use lib.Ieee.Nearest.{div_same}
 use lib.Ieee.Positive.{num, den, den_pos}
-use Rattle.floats.specs.declared.Quantized.TheVariants.{Q16, Refused}
+use Rattle.std.specs.Prelude.{Some, None}
 use Rattle.floats.specs.Factor.{scale, within, rounded_q16, quantized, factor_of}
 use Rattle.floats.proofs.Order.{never, same_test, or_l, or_r, or_split, lt_value, le_value, inf_lt, inf_le}
 use Rattle.floats.proofs.Order.{nan_le}
@@ -116,13 +116,13 @@ rounded_le limit x t =
     le_of_suc-le-suc ((div-lt_iff_lt-mul (mul-pos (zero-lt-suc 1) d)).1
     (omega (arith, within_le limit x t, suc-mul (limit * scale) (2 * den x), doubled limit (den x))))
 
-pub quantized_taken : (limit : ℕ) (x : Float) → within limit x ≡ true → quantized limit x ≡ Q16 (rounded_q16 x)
+pub quantized_taken : (limit : ℕ) (x : Float) → within limit x ≡ true → quantized limit x ≡ Some (rounded_q16 x)
 unfolding quantized
-quantized_taken limit x h = ap (λ (b : Bool). cond b (Q16 (rounded_q16 x)) Refused) h
+quantized_taken limit x h = ap (λ (b : Bool). cond b (Some (rounded_q16 x)) None) h
 
-pub quantized_refused : (limit : ℕ) (x : Float) → within limit x ≡ false → quantized limit x ≡ Refused
+pub quantized_refused : (limit : ℕ) (x : Float) → within limit x ≡ false → quantized limit x ≡ None
 unfolding quantized
-quantized_refused limit x h = ap (λ (b : Bool). cond b (Q16 (rounded_q16 x)) Refused) h
+quantized_refused limit x h = ap (λ (b : Bool). cond b (Some (rounded_q16 x)) None) h
 
 -- ---- the code's tests: not below 0.0, and at most the limit as a double
 
@@ -224,9 +224,9 @@ factor_value q h =
     (round_exact binary64 false q scale q 1058 (zero-lt-suc 65535) h (lt_of_lt_of_le (shl_lt 53 1058 h) (lit≤ tt))
     (sym (mul_assoc q (2 ^ 1058) scale)))
 
-pub quantized_factor : (limit q : ℕ) → limit ≤ 255 → q ≤ limit * scale → quantized limit (factor_of q) ≡ Q16 q
+pub quantized_factor : (limit q : ℕ) → limit ≤ 255 → q ≤ limit * scale → quantized limit (factor_of q) ≡ Some q
 quantized_factor limit q l h =
     let v = factor_value q (omega arith) in
     quantized_taken limit (factor_of q)
     (within_value limit (factor_of q) q scale (zero-lt-suc 65535) v ∙ le-leb q (limit * scale) h)
-    ∙ ap Q16 (rounded_value (factor_of q) false q scale (zero-lt-suc 65535) v ∙ omega arith)
+    ∙ ap Some (rounded_value (factor_of q) false q scale (zero-lt-suc 65535) v ∙ omega arith)

@@ -7,3 +7,4 @@ pub mod Factor
 pub mod Odd
 pub mod Overflow
 pub mod Examples
+pub mod Finite

@@ -6,7 +6,7 @@ use lib.Ieee.{Float, nan, inf, fin, binary64, up, down, below, lt, le, of_int}
 use lib.Ieee.Fits.{down_pos}
 use lib.Ieee.Exact.{HasValue}
 use lib.Ieee.Positive.{num, den, den_pos}
-use Rattle.floats.specs.declared.OddLength.TheVariants.{Length, Beyond}
+use Rattle.std.specs.Prelude.{Some, None}
 use Rattle.floats.specs.Factor.{within}
 use Rattle.floats.specs.Odd.{ceiling, odd_from, odd_of, odd_length}
 use Rattle.floats.proofs.Values.{Cut, cut_value, of_int_value}
@@ -110,11 +110,11 @@ odd_of_high n d D h = let l : 3 < ceiling n d = lt_of_mul-lt-mul_right d (lt_of_
     omega arith
 
 picked : (n d : ℕ) → n ≤ 2 ^ 53 * d → (k : ℕ) → odd_of n d ≡ k
-    → Length k ≡ cond (leb n (2 ^ 53 * d)) (Length (odd_of n d)) Beyond
-picked n d h k e = ap Length (sym e)
-    ∙ sym (ap (λ (b : Bool). cond b (Length (odd_of n d)) Beyond) (le-leb n (2 ^ 53 * d) h))
+    → Some k ≡ cond (leb n (2 ^ 53 * d)) (Some (odd_of n d)) None
+picked n d h k e = ap Some (sym e)
+    ∙ sym (ap (λ (b : Bool). cond b (Some (odd_of n d)) None) (le-leb n (2 ^ 53 * d) h))
 
-pub test_low : (x : Float) → le x three ≡ true → Length 3 ≡ odd_length x
+pub test_low : (x : Float) → le x three ≡ true → Some 3 ≡ odd_length x
 unfolding odd_length
 test_low nan h = never (sym (nan_le three) ∙ h)
 test_low (inf true) h = refl
@@ -135,7 +135,7 @@ test_within (fin false m e) h k =
     (leb-true (m * up e) (2 ^ 53 * down e) (sym (le_whole m e (2 ^ 53) limit (refl, refl)) ∙ k))
 
 pub test_length : (x : Float) → le x three ≡ false → T (within (2 ^ 53) x)
-    → Length (odd_from (ceiling (num x) (den x))) ≡ odd_length x
+    → Some (odd_from (ceiling (num x) (den x))) ≡ odd_length x
 unfolding odd_length
 test_length nan h t = absurd (unfold within in t)
 test_length (inf s) h t = absurd (unfold within in t)
@@ -145,12 +145,12 @@ test_length (fin false m e) h t =
     picked (m * up e) (down e) (within_le (2 ^ 53) (fin false m e) t) (odd_from (ceiling (m * up e) (down e)))
     (odd_of_high (m * up e) (down e) (down_pos e) l)
 
-pub test_beyond : (x : Float) → le x three ≡ false → le x limit ≡ false → Beyond ≡ odd_length x
+pub test_beyond : (x : Float) → le x three ≡ false → le x limit ≡ false → None ≡ odd_length x
 unfolding odd_length
 test_beyond nan h k = refl
 test_beyond (inf true) h k = never (sym h ∙ inf_le true false 3 (pos 0))
 test_beyond (inf false) h k = refl
 test_beyond (fin true m e) h k = never (sym h ∙ le_negative m e 3 three (refl, refl))
 test_beyond (fin false m e) h k =
-    sym (ap (λ (b : Bool). cond b (Length (odd_of (m * up e) (down e))) Beyond)
+    sym (ap (λ (b : Bool). cond b (Some (odd_of (m * up e) (down e))) None)
     (sym (le_whole m e (2 ^ 53) limit (refl, refl)) ∙ k))

@@ -1,11 +1,9 @@
 -- q from a factor (document 01, "Restoration and line unsharp"), which factors refusal 8 takes, and the factor of a q
 -- ("The 32-byte record"). A finite double is the fraction `num` / `den` of lib.Ieee.Positive: m * up e / down e of `fin
 -- s m e`, its sign aside.
-use Rattle.std.specs.Prelude.{ℕ, ◌+◌, ◌*◌, ◌/◌, Bool, false, cond, not, ◌&&◌, ◌||◌, pos, ◌==◌, nat_le}
+use Rattle.std.specs.Prelude.{ℕ, ◌+◌, ◌*◌, ◌/◌, Bool, false, cond, not, ◌&&◌, ◌||◌, pos, ◌==◌, nat_le, Option, Some, None}
 use lib.Ieee.{Float, nan, inf, fin, binary64, up, down, div, of_int}
 use Rattle.std.specs.Float.Ieee.Positive.{num, den}
-use Rattle.floats.specs.declared.Quantized.{Quantized}
-use Rattle.floats.specs.declared.Quantized.TheVariants.{Q16, Refused}
 
 -- ---- the limits
 
@@ -32,10 +30,10 @@ within limit (fin s m e) = m == 0 || (not s && nat_le (m * up e) (limit * down e
 unfoldable pub rounded_q16 : Float → ℕ
 rounded_q16 x = (2 * scale * num x + den x) / (2 * den x)
 
--- q of a factor in 0..limit, and that any other is refused
-unfoldable pub quantized : ℕ → Float → Quantized
+-- q of a factor in 0..limit, and none of any other, which is refused
+unfoldable pub quantized : ℕ → Float → Option ℕ
 unfolding within rounded_q16
-quantized limit x = cond (within limit x) (Q16 (rounded_q16 x)) Refused
+quantized limit x = cond (within limit x) (Some (rounded_q16 x)) None
 
 -- The factor is q / 65,536. `fin false 1 (pos 16)` is `scale` as a double, and the quotient is exact (`factor_value` of
 -- proofs/Factor.antt).

@@ -1,10 +1,8 @@
 -- The blur length from an estimate (document 01, "Whole job and exact run"): the smallest odd whole number that is at
 -- least 3 and at least the estimate. That it is the smallest such number is proved in proofs/Odd.antt.
-use Rattle.std.specs.Prelude.{ℕ, ◌+◌, ◌-◌, ◌*◌, ◌/◌, ◌^◌, max, true, false, cond, nat_le, Float}
+use Rattle.std.specs.Prelude.{ℕ, ◌+◌, ◌-◌, ◌*◌, ◌/◌, ◌^◌, max, true, false, cond, nat_le, Float, Option, Some, None}
 use Rattle.std.specs.Float.{nan, inf, fin}
 use Rattle.std.specs.Float.Ieee.{up, down}
-use Rattle.floats.specs.declared.OddLength.{OddLength}
-use Rattle.floats.specs.declared.OddLength.TheVariants.{Length, Beyond}
 
 -- num / den, raised to a whole number
 abbrev pub ceiling : ℕ → ℕ → ℕ
@@ -20,10 +18,10 @@ odd_of num den = max 3 (odd_from (ceiling num den))
 
 -- No length is answered for what is not a number and for estimates above 2 ^ 53, beyond every picture. A negative
 -- estimate gives 3.
-unfoldable pub odd_length : Float → OddLength
+unfoldable pub odd_length : Float → Option ℕ
 unfolding odd_of
-odd_length nan = Beyond
-odd_length (inf true) = Length 3
-odd_length (inf false) = Beyond
-odd_length (fin true m e) = Length 3
-odd_length (fin false m e) = cond (nat_le (m * up e) (2 ^ 53 * down e)) (Length (odd_of (m * up e) (down e))) Beyond
+odd_length nan = None
+odd_length (inf true) = Some 3
+odd_length (inf false) = None
+odd_length (fin true m e) = Some 3
+odd_length (fin false m e) = cond (nat_le (m * up e) (2 ^ 53 * down e)) (Some (odd_of (m * up e) (down e))) None

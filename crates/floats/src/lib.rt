@@ -1,50 +1,23 @@
-// What the stage asks of doubles: finite or not, q from a factor and back, and the odd length that an
-// estimate gives.
+// What the stage asks of doubles: q from a factor and back, and the odd length that an estimate gives.
 #![tactic(auto)]
 
 ghost use Rattle.std.specs.Prelude.{◌≡◌, ◌^◌, ◌≤◌, T};
-ghost use Rattle.std.specs.Float.Ieee.Scale.{finite};
 ghost use Rattle.std.specs.Float.Ieee.Positive.{num, den};
 ghost use Rattle.floats.specs.Factor.{max_relaxation, max_gain, within, rounded_q16, quantized, factor_of};
 ghost use Rattle.floats.specs.Odd.{ceiling, odd_from, odd_length};
 
-// q, or that the factor is refused.
-#[derive(Clone, Copy)]
-pub enum Quantized {
-    Q16(u32),
-    Refused,
-}
+// q is the factor times this.
+pub const SCALE: u32 = 65536;
 
-impl Quantized {
-    // q is the factor times this.
-    pub const SCALE: u32 = 65536;
+// The largest factors that are taken.
+pub const MAX_RELAXATION: u8 = 1;
 
-    pub const MAX_RELAXATION: u8 = 1;
-
-    pub const MAX_GAIN: u8 = 8;
-}
+pub const MAX_GAIN: u8 = 8;
 
 // The scale as a double, and the number of its halves.
-const SCALE: f64 = Quantized::SCALE as f64;
+const PARTS: f64 = SCALE as f64;
 
-const HALVES: f64 = (2 * Quantized::SCALE) as f64;
-
-// The odd length, or that the estimate is no number or above 2^53.
-#[derive(Clone, Copy)]
-pub enum OddLength {
-    Length(u64),
-    Beyond,
-}
-
-// Neither a NaN nor an infinity.
-pub fn is_finite(x: f64) -> bool
-    ensures { result ≡ finite x }
-{
-    if x < 1.0 / 0.0 {
-        return -1.0 / 0.0 < x;
-    }
-    false
-}
+const HALVES: f64 = (2 * SCALE) as f64;
 
 // Whether refusal 8 takes the factor.
 pub fn is_within(factor: f64, limit: u8) -> bool
@@ -57,6 +30,7 @@ pub fn is_within(factor: f64, limit: u8) -> bool
 }
 
 // q of a factor that is taken. The product is exact, so the rounding is the integers' alone.
+// No `round`: the stage rounds by its own rule, as the requirements ask (document 01).
 pub fn round_q16(factor: f64) -> u32
     requires { T (within 255 factor) }
     ensures { result ≡ rounded_q16 factor }
@@ -66,38 +40,40 @@ pub fn round_q16(factor: f64) -> u32
 }
 
 // q of a factor in 0..limit.
-fn quantize(factor: f64, limit: u8) -> Quantized
+fn quantize(factor: f64, limit: u8) -> Option<u32>
     ensures { result ≡ quantized limit factor }
 {
     if is_within(factor, limit) {
-        Quantized::Q16(round_q16(factor))
+        Some(round_q16(factor))
     } else {
-        Quantized::Refused
+        None
     }
 }
 
 // q of a relaxation.
-pub fn quantize_relaxation(factor: f64) -> Quantized
+// Two names: the callers have no limit at hand, and each has its own.
+pub fn quantize_relaxation(factor: f64) -> Option<u32>
     ensures { result ≡ quantized max_relaxation factor }
 {
-    quantize(factor, Quantized::MAX_RELAXATION)
+    quantize(factor, MAX_RELAXATION)
 }
 
 // q of a gain.
-pub fn quantize_gain(factor: f64) -> Quantized
+pub fn quantize_gain(factor: f64) -> Option<u32>
     ensures { result ≡ quantized max_gain factor }
 {
-    quantize(factor, Quantized::MAX_GAIN)
+    quantize(factor, MAX_GAIN)
 }
 
 // The factor q / 65,536, exactly.
 pub fn factor_of_q16(q: u32) -> f64
     ensures { result ≡ factor_of q }
 {
-    q as f64 / SCALE
+    q as f64 / PARTS
 }
 
 // x raised to a whole number. Up to 2^53 the whole part is a double too.
+// No `ceil`: the stage rounds by its own rule, as the requirements ask (document 01).
 fn raised(x: f64) -> u64
     requires { T (within (2 ^ 53) x) }
     ensures { result ≡ ceiling (num x) (den x) }
@@ -117,15 +93,16 @@ fn odd_from(c: u64) -> u64
     c / 2 * 2 + 1
 }
 
-// The smallest odd whole number that is at least 3 and at least the estimate.
-pub fn odd_length(estimate: f64) -> OddLength
+// The smallest odd whole number that is at least 3 and at least the estimate. None where the estimate is no number or
+// above 2^53.
+pub fn odd_length(estimate: f64) -> Option<u64>
     ensures { result ≡ odd_length estimate }
 {
     if estimate <= 3.0 {
-        return OddLength::Length(3);
+        return Some(3);
     }
     if estimate <= 9007199254740992.0 {
-        return OddLength::Length(odd_from(raised(estimate)));
+        return Some(odd_from(raised(estimate)));
     }
-    OddLength::Beyond
+    None
 }

@@ -4,7 +4,7 @@ use native.Mathlib.Nat.{add_assoc}
 use native.Mathlib.Omega.{arith}
 use mathlib.Core.List.{List, ◌++◌, append_assoc}
 use mathlib.Core.Path.{◌≡◌, sym, ap, ap₂, ◌∙◌}
-use lib.ListN.{length, take, drop, length-append, length-drop}
+use lib.ListN.{length, take, drop, length-append}
 use lib.Seq.{length-take-le, take_at, drop_at, drop-drop}
 use Rattle.image.specs.Call.{Appended}
 
@@ -61,10 +61,3 @@ part_put at e old ys h same =
           ap (λ (zs : List ℕ). take at old ++ (ys ++ zs))
           (drop-drop (e - at) at old ∙ ap (λ (n : ℕ). drop (at + n) old) (sym same));
     }
-
--- room for k more, where there was room for all
-pub appended_room : {xs old new : List ℕ} {e : ℕ} (k : ℕ) → Appended xs 0 old new e → length xs + k ≤ length old
-    → e + k ≤ length new
-appended_room {xs} {old} {new} k A h =
-    let a = ap length (appended_front A) ∙ length-append xs (drop (length xs) old) in
-    omega (arith, a, length-drop (length xs) old, A.behind)

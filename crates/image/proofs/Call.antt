@@ -4,6 +4,10 @@
 use Prim.Native.Nat.{ℕ, zero, suc}
 use native.Mathlib.Omega.{arith}
 use mathlib.Core.Path.{◌≡◌, refl, sym, ap, ◌∙◌}
+use Rattle.std.proofs.Common.{Bool, false}
+use Rattle.std.proofs.lemmas.Bool.{true≢false}
+use Rattle.std.specs.Prelude.{Result, Ok, Err, IfOk}
+use Rattle.std.specs.Result.{is_err}
 use Rattle.image.specs.Call.{Decision, accepts, refuses, unless, decided, and_then, number_of, Outcome, Returns}
 use Rattle.image.specs.Call.{WithOuts, OutsOnly}
 use Rattle.image.specs.Refusal.{first_refusal}
@@ -95,16 +99,6 @@ module _ {R A D S : Type 0} {decision : Decision R} {answers : Decision R → A}
   same-decision : of answer ≡ decision
   same-decision = ap of o.answered ∙ inverse decision
 
-  -- the number alone
-  pub number_in_c : {r : ℕ} → r ≡ number_of (of answer) → Outcome decision number_of writes old new scratch scratch' r
-  number_in_c e =
-      record {
-        answered = e ∙ ap number_of same-decision;
-        written = o.written;
-        dst_kept = o.dst_kept;
-        scratch_kept = o.scratch_kept;
-      }
-
 module _ {R A D O S : Type 0} {decision : Decision R} {answers : Decision R → A}
     {writes : R → D → D → Type 0} {old new : D}
     {scratch scratch' : S} {answer : A} (of : A → Decision R)
@@ -132,3 +126,8 @@ module _ {R A D O S : Type 0} {decision : Decision R} {answers : Decision R → 
         dst_kept = λ n z. rw (o.dst_kept n z, outs_in_c.dst_kept n z) refl;
         scratch_kept = o.scratch_kept;
       }
+
+-- what an accepted one ensures, where a test shows that it is accepted
+pub accepted_has : {T E L : Type 0} {b : Bool} (r : Result T E) → IfOk r (λ _. L) → b ≡ is_err r → b ≡ false → L
+accepted_has (Ok x) h e f = h
+accepted_has (Err x) h e f = elim (true≢false (sym e ∙ f)) [ ]

@@ -28,7 +28,7 @@ use Rattle.image.specs.Call.{Decision, unless, decided, number_of}
 use Rattle.image.proofs.Call.{number_decided, number_unless}
 use Rattle.image.proofs.Chain.{first_own}
 use Rattle.image.proofs.Pair.{laid_pair, accepted_pair}
-use Rattle.image.proofs.Refusal.{laid, accepted}
+use Rattle.image.proofs.Accepted.{laid, accepted}
 
 -- ---- no two numbers match
 

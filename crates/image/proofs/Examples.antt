@@ -4,7 +4,7 @@ use mathlib.Core.List.{List, [], ◌∷◌}
 use mathlib.Core.Path.{◌≡◌, refl}
 use Rattle.image.specs.Refusal.{layout_refusal, pair_refusal}
 use Rattle.image.specs.Picture.{pixel_of, row_of}
-use Rattle.image.specs.declared.Pixel.TheVariants.{Value, Outside}
+use Rattle.std.specs.Prelude.{Some, None}
 
 -- 1 comes before 2, 2 before 3, 3 before 4
 empty_first : layout_refusal 0 0 1025 0 ≡ 1
@@ -75,11 +75,11 @@ strides_differ = refl
 bytes : List ℕ
 bytes = 1 ∷ 2 ∷ 3 ∷ 99 ∷ 4 ∷ 5 ∷ 6 ∷ []
 
-last_pixel : pixel_of bytes 3 2 4 2 1 ≡ Value 6
+last_pixel : pixel_of bytes 3 2 4 2 1 ≡ Some 6
 unfolding bytes pixel_of layout_refusal
 last_pixel = refl
 
-between_rows : pixel_of bytes 3 2 4 3 0 ≡ Outside
+between_rows : pixel_of bytes 3 2 4 3 0 ≡ None
 unfolding bytes pixel_of layout_refusal
 between_rows = refl
 
@@ -92,7 +92,7 @@ unfolding bytes row_of layout_refusal
 no_row = refl
 
 -- the smallest view with a byte beside its pixel, which the Rust reads (docs/DIFFERENCES.md)
-smallest_outside : pixel_of (7 ∷ 9 ∷ []) 1 1 2 1 0 ≡ Outside
+smallest_outside : pixel_of (7 ∷ 9 ∷ []) 1 1 2 1 0 ≡ None
 unfolding pixel_of layout_refusal
 smallest_outside = refl
 

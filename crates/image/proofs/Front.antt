@@ -1,6 +1,6 @@
 -- Bytes at the front of a slice: room for them (`room_short`, `room_whole`, `room_matches`), that they are determined
--- (`front_one`), that a refusal keeps the slice (`counted_kept`), and the call as C has it (`counted_in_c`,
--- `refused_in_c`): the result, and how many they are.
+-- (`front_one`), and of a call that answers how many they are that they fit (`counted_fits`) and that a refusal keeps the
+-- slice (`counted_kept`).
 use mathlib.Core.Path.{◌≡◌, refl, sym, ap, ◌∙◌}
 use mathlib.Core.List.{List, [], ◌∷◌}
 use Prim.Native.Nat.{ℕ, ◌≤◌, ◌<◌}
@@ -10,10 +10,10 @@ use lib.Dec.{ltb}
 use lib.ListN.{length, take, drop, length-append}
 use lib.Seq.{take_at}
 use Rattle.numbers.proofs.Test.{by_test, ap_cond, ltb_iff}
-use Rattle.image.specs.Call.{Decision, accepts, refuses, number_of, Outcome, WithOuts, room_for, FrontWrites}
+use Rattle.image.specs.Call.{Decision, accepts, refuses, number_of, Outcome, room_for, FrontWrites}
 use Rattle.image.specs.Conditions.{FirstMatch, given}
 use Rattle.image.specs.Determined.{WritesOne}
-use Rattle.image.proofs.Call.{accepts_not_refuses, outcome_accepted}
+use Rattle.image.proofs.Call.{accepts_not_refuses}
 use Rattle.image.proofs.Conditions.{match_none, match_test}
 use Rattle.image.proofs.Same.{answers_alike}
 
@@ -86,34 +86,3 @@ module _ {A : Type 0} {answers : Decision (List ℕ) → A} (of : A → Decision
       go : (d : Decision (List ℕ)) → decision ≡ d → new ≡ old
       go (accepts xs) at = absurd (accepts_not_refuses (sym (ap counted at) ∙ sym said ∙ e))
       go (refuses k) at = o.dst_kept k at
-
-  module _ (before : ℕ) where
-    abbrev pub CountedInC : ℕ → ℕ → Type 0
-    CountedInC after r =
-        Outcome decision number_of (WithOuts FrontWrites length) (old, before) (new, after) (tt {0}) (tt {0}) r
-
-    pub counted_in_c : {n : ℕ} → of answer ≡ accepts n → CountedInC n 0
-    counted_in_c {n} e = go decision refl
-      where
-        go : (d : Decision (List ℕ)) → decision ≡ d → CountedInC n 0
-        go (accepts xs) at =
-            let found = sym e ∙ said ∙ ap counted at in
-            let same : n ≡ length xs = cc in
-            outcome_accepted number_of (WithOuts FrontWrites length) (old, before) tt xs
-            (new, n) tt at refl (o.written xs at, same)
-        go (refuses number) at = absurd (accepts_not_refuses (sym e ∙ said ∙ ap counted at))
-
-    pub refused_in_c : {number : ℕ} → of answer ≡ refuses number → CountedInC before number
-    refused_in_c {number} e = go decision refl
-      where
-        go : (d : Decision (List ℕ)) → decision ≡ d → CountedInC before number
-        go (accepts xs) at = absurd (accepts_not_refuses (sym (ap counted at) ∙ sym said ∙ e))
-        go (refuses k) at =
-            let found = sym e ∙ said ∙ ap counted at in
-            let same : number ≡ k = cc in
-            record {
-              answered = rw at same;
-              written = λ found z. absurd (accepts_not_refuses (sym z ∙ at));
-              dst_kept = λ m z. rw (o.dst_kept m z) refl;
-              scratch_kept = λ _ _ _. refl;
-            }

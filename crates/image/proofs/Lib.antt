@@ -1,9 +1,10 @@
 -- The laws of `image`.
 pub mod Call
+pub mod Told
 pub mod Chain
 pub mod Conditions
 pub mod Determined
-pub mod Refusal
+pub mod Accepted
 pub mod Same
 pub mod Pair
 pub mod Picture
@@ -11,5 +12,4 @@ pub mod Rows
 pub mod Tight
 pub mod Front
 pub mod Appending
-pub mod ViewRefusal
 pub mod Examples

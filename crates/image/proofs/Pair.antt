@@ -8,8 +8,8 @@ use lib.Dec.{eqb}
 use borrow.Author.Tests.{eq-eqb, ne_eqb, eqb-true}
 use Rattle.image.specs.Refusal.{layout_refusal, destination_refusal, sizes_refusal, sized_refusal, pair_refusal}
 use Rattle.image.specs.Refusal.{Laid, LaidAt, LaidPair}
-use Rattle.image.proofs.Chain.{cond_left, first_zero, first_own}
-use Rattle.image.proofs.Refusal.{laid, accepted}
+use Rattle.image.proofs.Chain.{cond_left, first_zero}
+use Rattle.image.proofs.Accepted.{laid, accepted}
 
 -- Each number of a destination in its condition.
 module _ (dst_len dst_width dst_height dst_stride w h : ℕ) where
@@ -63,10 +63,6 @@ module _ (len width height stride dst_len dst_width dst_height dst_stride : ℕ)
 
   abbrev pair : ℕ
   pair = pair_refusal len width height stride dst_len dst_width dst_height dst_stride
-
-  pub pair_own : (own ≡ 0 → ⊥) → pair ≡ own
-  unfolding pair_refusal
-  pair_own h = first_own own _ h
 
   pub pair_sized : own ≡ 0 → pair ≡ sized_refusal dst_len dst_width dst_height dst_stride width height
   unfolding pair_refusal

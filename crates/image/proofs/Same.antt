@@ -16,9 +16,9 @@ use Rattle.numbers.proofs.Written.{painted_get}
 use Rattle.image.specs.Call.{Gray8, Decision, accepts, Outcome}
 use Rattle.image.specs.Refusal.{layout_refusal, pair_refusal, Laid}
 use Rattle.image.specs.Picture.{pixel_of, row_of}
-use Rattle.image.specs.declared.Pixel.TheVariants.{Value, Outside}
+use Rattle.std.specs.Prelude.{Some, None}
 use Rattle.image.specs.Same.{SamePicture, SameEnd}
-use Rattle.image.proofs.Refusal.{accepted, row_within, place_within}
+use Rattle.image.proofs.Accepted.{accepted, row_within, place_within}
 
 cond_agree : {A : Type 0} (t : Bool) {x y : A} (z : A) → (t ≡ true → x ≡ y) → cond t x z ≡ cond t y z
 cond_agree true z e = e refl
@@ -43,9 +43,9 @@ module _ {a b : Gray8} (same : SamePicture a b) where
   unfolding pixel_of
   pixel_of_same c r =
       rw (accepted same.laid, accepted same.laid', ← same.same_width, ← same.same_height)
-      (cond_agree (ltb c a.width && ltb r a.height) Outside λ t.
+      (cond_agree (ltb c a.width && ltb r a.height) None λ t.
       let inside = (and-eq-true_iff (ltb c a.width) (ltb r a.height)).0 t in
-      ap Value (same.same_pixels c r (ltb-true c a.width inside.0) (ltb-true r a.height inside.1)))
+      ap Some (same.same_pixels c r (ltb-true c a.width inside.0) (ltb-true r a.height inside.1)))
 
   pub row_of_same : (row : ℕ) → row_of a.bytes a.width a.height a.stride row
       ≡ row_of b.bytes b.width b.height b.stride row

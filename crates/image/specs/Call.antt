@@ -1,6 +1,13 @@
 -- The one shape of a contract: what a call decides, answers, writes and leaves (document 01, "Refusals, first match
 -- wins").
 use Rattle.std.specs.Prelude.{ℕ, zero, suc, ◌+◌, cond, List, ◌++◌, ◌≡◌, ltb, length, take, drop}
+use Rattle.std.specs.Prelude.{Result, Ok, Err}
+use Rattle.image.specs.declared.refusal.Refusal.{Refusal}
+use Rattle.image.specs.declared.refusal.Refusal.TheVariants.{EmptyDimensions, DimensionsTooLarge, StrideTooSmall, BufferTooSmall}
+use Rattle.image.specs.declared.refusal.Refusal.TheVariants.{InvalidDestination, DimensionMismatch, InvalidLine, InvalidStrength}
+use Rattle.image.specs.declared.refusal.Refusal.TheVariants.{TooManyIterations, LentTooSmall, NoLength, LengthTooLarge}
+use Rattle.image.specs.declared.refusal.Refusal.TheVariants.{InvalidRecord, InvalidHeader, UnsupportedMaximum, PixelCountMismatch}
+use Rattle.image.specs.declared.refusal.Refusal.TheVariants.{LowConfidence, CannotHalve}
 
 -- a picture in a slice of bytes
 pub record Gray8 : Type 0 where
@@ -24,6 +31,45 @@ unless (suc number) next = refuses (suc number)
 
 abbrev pub decided : {R : Type 0} → ℕ → R → Decision R
 decided number found = unless number (accepts found)
+
+-- the document's number of a refusal
+abbrev pub number_of_refusal : Refusal → ℕ
+number_of_refusal EmptyDimensions = 1
+number_of_refusal DimensionsTooLarge = 2
+number_of_refusal StrideTooSmall = 3
+number_of_refusal BufferTooSmall = 4
+number_of_refusal InvalidDestination = 5
+number_of_refusal DimensionMismatch = 6
+number_of_refusal InvalidLine = 7
+number_of_refusal InvalidStrength = 8
+number_of_refusal TooManyIterations = 9
+number_of_refusal LentTooSmall = 10
+number_of_refusal NoLength = 11
+number_of_refusal LengthTooLarge = 12
+number_of_refusal InvalidRecord = 13
+number_of_refusal InvalidHeader = 14
+number_of_refusal UnsupportedMaximum = 15
+number_of_refusal PixelCountMismatch = 16
+number_of_refusal LowConfidence = 17
+number_of_refusal CannotHalve = 18
+
+-- what a call answered, as the decision that it shows
+abbrev pub told : {R : Type 0} → Result R Refusal → Decision R
+told (Ok found) = accepts found
+told (Err refusal) = refuses (number_of_refusal refusal)
+
+-- a call that only checks: it is refused with this number, and accepted where that is 0
+abbrev pub Checks : ℕ → Result (Unit {0}) Refusal → Type 0
+Checks number result = told result ≡ decided number tt
+
+-- a call that answers what its decision finds
+abbrev pub same : {R : Type 0} → Decision R → Decision R
+same decision = decision
+
+-- what is found, seen otherwise
+abbrev pub map_found : {R T : Type 0} → (R → T) → Decision R → Decision T
+map_found f (accepts found) = accepts (f found)
+map_found f (refuses number) = refuses number
 
 -- one after the other
 abbrev pub and_then : {Q R : Type 0} → Decision Q → (Q → Decision R) → Decision R

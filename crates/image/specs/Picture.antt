@@ -1,19 +1,18 @@
 -- Document 01, "Views and lines": pixels and rows of a picture that lies in a list of bytes.
 use Rattle.std.specs.Prelude.{ℕ, zero, suc, ◌+◌, ◌*◌, ◌/◌, ◌%◌, cond, ◌&&◌, List, [], ◌∷◌, eqb, ltb, length, get_or, take, drop}
 use Rattle.image.specs.Refusal.{layout_refusal}
-use Rattle.image.specs.declared.Pixel.{Pixel}
-use Rattle.image.specs.declared.Pixel.TheVariants.{Value, Outside}
+use Rattle.std.specs.Prelude.{Option, None, Some}
 
 -- Pixel (c, r) is byte r × stride + c.
 abbrev pub pixel : List ℕ → ℕ → ℕ → ℕ → ℕ
 pixel xs stride c r = get_or xs (r * stride + c) 0
 
--- Pixel (c, r) of an accepted picture; Outside where the layout is refused, and at a place outside the picture.
-unfoldable pub pixel_of : List ℕ → ℕ → ℕ → ℕ → ℕ → ℕ → Pixel
+-- Pixel (c, r) of an accepted picture; none where the layout is refused, and at a place outside the picture.
+unfoldable pub pixel_of : List ℕ → ℕ → ℕ → ℕ → ℕ → ℕ → Option ℕ
 pixel_of xs width height stride c r =
     cond (eqb (layout_refusal (length xs) width height stride) 0 && ltb c width && ltb r height)
-    (Value (pixel xs stride c r))
-    Outside
+    (Some (pixel xs stride c r))
+    None
 
 -- The pixels of a row; none where the layout is refused or there is no such row.
 unfoldable pub row_of : List ℕ → ℕ → ℕ → ℕ → ℕ → List ℕ

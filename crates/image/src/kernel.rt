@@ -3,26 +3,20 @@ ghost use Rattle.std.specs.Prelude.{length};
 ghost use Rattle.numbers.specs.Written.{Painted};
 ghost use Rattle.image.specs.Refusal.{Laid};
 ghost use Rattle.image.specs.Picture.{pixel};
+ghost use Rattle.image.specs.View.{LaidView};
 
-// The pixels of a picture into another of its size, row by row.
-pub fn copy_rows(
-    data: &[u8],
-    width: usize,
-    height: usize,
-    stride: usize,
-    dst: &mut [u8],
-    dst_stride: usize,
-)
-    requires laid { Laid (length «data».now) width height stride }
-    requires laid_2 { Laid (length dst.old) width height dst_stride }
-    ensures { Painted 0 (pixel «data».now stride) width height dst_stride
+use crate::Gray8View;
+
+// The pixels of a picture into another of its size, row by row. Of that one bytes and stride: its sides are the same.
+pub fn copy_rows<'a>(src: Gray8View<'a>, dst: &mut [u8], dst_stride: usize)
+    requires laid { LaidView src }
+    requires laid_dst { Laid (length dst.old) src.width src.height dst_stride }
+    ensures { Painted 0 (pixel src.entry.«data».now src.entry.stride) src.entry.width src.entry.height dst_stride
         dst.old dst.new }
 {
-    let mut y = 0;
-    while y < height {
-        let from = y * stride;
+    for y in 0..src.height {
+        let from = y * src.stride;
         let to = y * dst_stride;
-        dst[to..to + width].copy_from_slice(&data[from..from + width]);
-        y += 1;
+        dst[to..to + src.width].copy_from_slice(&src.data[from..from + src.width]);
     }
 }

@@ -1,206 +1,186 @@
--- The parts of a job put together: its start (`start_refused`, `start_direction`, `start_floor`), its end
--- (`finish_asked`, `finish_done`, `finish_refused`), and the whole: refused at its start (`job_refused`), or with the
--- length between start and end (`job_outcome`).
+-- The parts of a job put together: its start (`start_told`), what its end asks (`finish_factor`, `finish_asked`), and the
+-- whole: refused at its start (`job_refused`), with its length measured (`length_told`), and then refused (`late_refused`)
+-- or run (`job_runs`, `length_long`, `job_done`).
 use mathlib.Core.List.{List}
-use mathlib.Core.Path.{◌≡◌, refl, sym, ap, ◌∙◌}
-use Prim.Native.Nat.{ℕ}
+use mathlib.Core.Path.{◌≡◌, refl, sym, ap, ap₂, ◌∙◌}
+use Prim.Native.Nat.{ℕ, zero, suc}
 use native.Mathlib.Omega.{arith}
 use lib.Dec.{T}
 use lib.IntN.{ℤ}
 use lib.ListN.{length}
-use Rattle.numbers.specs.Scalar.{clamp_byte}
-use Rattle.numbers.specs.Written.{Painted}
+use Rattle.std.specs.Prelude.{Float, Option, Result, Ok}
 use Rattle.floats.specs.Factor.{max_relaxation, within}
-use Rattle.image.specs.Call.{Gray8, gray8, Decision, accepts, refuses, decided, number_of}
-use Rattle.image.specs.Refusal.{first_refusal, Laid}
-use Rattle.image.proofs.Call.{outcome_accepted, outcome_refused}
-use Rattle.image.proofs.Call.{decided_accepts, decided_none, number_decided, accepts_not_refuses}
-use Rattle.image.proofs.Chain.{first_own}
+use Rattle.image.specs.Call.{Gray8, accepts, refuses, unless, decided, told, same, map_found}
+use Rattle.image.specs.Refusal.{first_refusal}
+use Rattle.image.specs.declared.layout.Layout.{Layout}
+use Rattle.image.specs.declared.refusal.Refusal.{Refusal}
+use Rattle.image.proofs.Accepted.{accepted}
+use Rattle.image.proofs.Call.{accepts_not_refuses, decided_accepts, outcome_accepted, outcome_refused}
 use Rattle.image.proofs.Pair.{destination_laid}
-use Rattle.image.proofs.Refusal.{accepted}
 use Rattle.raster.specs.declared.direction.RasterDirection4.{RasterDirection4}
-use Rattle.blur.specs.Length.{length_refusal, length_along, length_decision, length_answer, LengthMeasured}
 use Rattle.tensor.specs.Confidence.{confident_decision}
-use Rattle.tensor.specs.Tensor.{picture_sums, estimate_of, direction_answer}
-use Rattle.blur.specs.declared.length.LengthAnswer.{LengthAnswer}
-use Rattle.blur.specs.declared.length.LineLength.{LineLength}
-use Rattle.swings.specs.declared.Swing.{Swing}
+use Rattle.tensor.specs.Tensor.{estimate_of, picture_sums}
 use Rattle.tensor.specs.declared.direction.DirectionEstimate.{DirectionEstimate}
-use Rattle.tensor.specs.declared.direction.DirectionAnswer.TheVariants as direction-answer
-use Rattle.tensor.proofs.Answer.{confident_decided, told_direction, told_refused}
+use Rattle.tensor.proofs.Answer.{confident_decided}
+use Rattle.swings.specs.declared.Swing.{Swing}
+use Rattle.blur.specs.Length.{thresholds, length_refusal, length_along, length_decision, LengthMeasured}
+use Rattle.blur.specs.declared.length.LineLengthConfig.{LineLengthConfig}
 use Rattle.blur.proofs.ScanPlans.{refusal_none}
-use Rattle.line.specs.declared.kernel.LineKernel.{LineKernel}
-use Rattle.deblur.specs.Lines.{kernel_estimate, AlongAsked}
+use Rattle.deblur.specs.Lines.{AlongAsked}
+use Rattle.deblur.specs.Refusal.{LengthTaken}
 use Rattle.deblur.proofs.Along.{factor_small, restoration_kernel}
 use Rattle.job.specs.declared.JobConfig.{JobConfig}
 use Rattle.job.specs.declared.JobResult.{JobResult}
-use Rattle.job.specs.declared.JobAnswer.{JobAnswer}
-use Rattle.job.specs.declared.JobAnswer.TheVariants.{Done, Refused}
-use Rattle.job.specs.declared.plan.JobStart.{JobStart}
-use Rattle.job.specs.Job.{Job, job_of, layout_of, job_refusal, floor_refusal, start_refusal, picture_direction}
-use Rattle.job.specs.Job.{job_direction, job_length, plan_length}
-use Rattle.job.specs.Job.{plan, job_answer, job_kernel, JobWrites, Restored, Runnable, JobAccepted}
-use Rattle.job.specs.Parts.{JobStarts, length_in, Finished}
-use Rattle.job.proofs.Plans.{job_decided_lem, job_accepted, start_none, plan_along, plan_early, plan_leaves}
+use Rattle.job.specs.Job.{Job, job_of, layout, layout_of, job_refusal, floor_refusal, start_refusal, picture_direction}
+use Rattle.job.specs.Job.{job_direction, job_length, plan_length, plan, job_kernel, JobWrites, Restored}
+use Rattle.job.specs.Job.{Runnable, JobAccepted}
+use Rattle.job.specs.Parts.{start_decision}
+use Rattle.job.proofs.Plans.{plan_along, plan_early, plan_leaves}
 
 -- ---- the start
 
-module _ (j : Job) (n : ℕ) (is : n ≡ job_refusal j) where
-  pub start_refused : (d : RasterDirection4) → (n ≡ 0 → ⊥)
-      → JobStarts j (record { refusal = n; direction = d })
-  unfolding start_refusal
-  start_refused d some =
-      let own = first_own (job_refusal j) (floor_refusal j.source j.config) (λ e. some (is ∙ e)) in
-      record { refusal_is = is ∙ sym own; direction_is = λ e. absurd (some (is ∙ sym own ∙ e)) }
+map_decided : {R S : Type 0} (f : R → S) (n : ℕ) (found : R) → map_found f (decided n found) ≡ decided n (f found)
+map_decided f zero found = refl
+map_decided f (suc n) found = refl
 
-  module _ (none : n ≡ 0) where
-    abbrev s : Gray8
-    s = j.source
+-- behind a job that is not refused before its picture is looked at, the picture decides
+pub start_told : (j : Job) → decided (job_refusal j) (tt {0}) ≡ accepts tt → JobAccepted j
+    → map_found (λ (e : DirectionEstimate). e.direction) (confident_decision j.config.minimum_confidence j.source)
+    ≡ start_decision j
+unfolding start_refusal picture_direction
+start_told j none taken =
+    let s = j.source in
+    let floor = floor_refusal s j.config in
+    let decides : confident_decision j.config.minimum_confidence s
+    ≡ decided floor (estimate_of s.width s.height (picture_sums s)) =
+    confident_decided s.bytes s.width s.height s.stride j.config.minimum_confidence
+    (accepted taken.runnable.pictures.source) in
+    let e = (decided_accepts (job_refusal j) tt tt none).0 in
+    ap (map_found (λ (e : DirectionEstimate). e.direction)) decides
+    ∙ map_decided (λ (e : DirectionEstimate). e.direction) floor _
+    ∙ ap (λ (n : ℕ). decided (first_refusal n floor) (job_direction j)) (sym e)
 
-    abbrev floor : ℕ
-    floor = j.config.minimum_confidence
+-- .. as its call answers it
+pub start_found : (j : Job) (e : DirectionEstimate) → accepts tt ≡ decided (job_refusal j) (tt {0}) → JobAccepted j
+    → accepts e ≡ confident_decision j.config.minimum_confidence j.source → accepts e.direction ≡ start_decision j
+start_found j e none taken answered =
+    ap (map_found (λ (e : DirectionEstimate). e.direction)) answered ∙ start_told j (sym none) taken
 
-    -- what the picture decides, behind a layout that is taken
-    decides : confident_decision floor s
-        ≡ decided (floor_refusal s j.config) (estimate_of s.width s.height (picture_sums s))
-    decides =
-        confident_decided s.bytes s.width s.height s.stride floor
-        (accepted (job_accepted j (sym is ∙ none)).runnable.pictures.source)
-
-    starts_with : start_refusal j ≡ floor_refusal s j.config
-    unfolding start_refusal
-    starts_with = ap (λ (k : ℕ). first_refusal k (floor_refusal s j.config)) (sym is ∙ none)
-
-    pub start_direction : (e : DirectionEstimate)
-        → direction_answer (confident_decision floor s) ≡ direction-answer.Direction e
-        → JobStarts j (record { refusal = n; direction = e.direction })
-    unfolding picture_direction
-    start_direction e given =
-        let told = decided_accepts (floor_refusal s j.config) _ e (sym decides ∙ told_direction _ given) in
-        record {
-          refusal_is = none ∙ sym (starts_with ∙ told.0);
-          direction_is = λ _. ap (λ (found : DirectionEstimate). found.direction) (sym told.1);
-        }
-
-    pub start_floor : (number : ℕ) (d : RasterDirection4)
-        → direction_answer (confident_decision floor s) ≡ direction-answer.Refused number
-        → JobStarts j (record { refusal = number; direction = d })
-    start_floor number d given =
-        let n = floor_refusal s j.config in
-        let told = sym decides ∙ told_refused _ given in
-        let is = starts_with ∙ sym (number_decided n _) ∙ ap number_of told in
-        record {
-          refusal_is = sym is;
-          direction_is = λ e. absurd (accepts_not_refuses (sym (decided_none (sym starts_with ∙ e) _) ∙ told));
-        }
+pub start_unclear : (j : Job) (number : ℕ) → accepts tt ≡ decided (job_refusal j) (tt {0}) → JobAccepted j
+    → refuses number ≡ confident_decision j.config.minimum_confidence j.source → refuses number ≡ start_decision j
+start_unclear j number none taken answered =
+    ap (map_found (λ (e : DirectionEstimate). e.direction)) answered ∙ start_told j (sym none) taken
 
 -- ---- the end
 
-module _ (d : RasterDirection4) (l : LineLength) (src dst : Gray8) (config : JobConfig) where
-  abbrev planned : Decision JobResult
-  planned = plan_length src.width src.height d l
-
-  pub finish_refused : (number : ℕ) (scratch : List ℤ) → Refused number ≡ job_answer planned
-      → Finished d l src dst dst.bytes config scratch scratch (Refused number)
-  finish_refused number scratch e =
-      outcome_refused job_answer (JobWrites src dst.stride config) dst.bytes scratch number (job_decided_lem e) refl
-
+module _ {src : Gray8} {dst : Layout} {config : JobConfig} {scratch_len : ℕ} (runs : Runnable src dst config scratch_len) where
   -- the factor has a q
-  pub finish_factor : {scratch_len : ℕ} → Runnable src (layout_of dst) config scratch_len → T (within 255 config.relaxation)
-  finish_factor runs = factor_small max_relaxation config.relaxation (omega arith) runs.relaxation_taken
+  pub finish_factor : T (within 255 config.relaxation)
+  finish_factor = factor_small max_relaxation config.relaxation (omega arith) runs.relaxation_taken
 
   -- what the work along the plan's direction asks
-  pub finish_asked : (result : JobResult) {kernel : LineKernel} {scratch_len : ℕ}
-      → Runnable src (layout_of dst) config scratch_len → Done result ≡ job_answer planned
-      → kernel ≡ job_kernel config result
-      → AlongAsked (length src.bytes) src.width src.height src.stride kernel scratch_len
-      × Laid (length dst.bytes) src.width src.height dst.stride
-  finish_asked result a e is =
-      let known = plan_along src.width src.height d l result (job_decided_lem e) in
-      let p = a.pictures in (
-        record {
-          laid = p.source;
-          taken =
-              rw is
-              (restoration_kernel known.taken p.source.width_most
-              p.source.height_most config.relaxation
-              config.border a.relaxation_taken a.iterations_taken);
-          room = a.scratch_least;
-        },
-        destination_laid p,
-      )
-
-  -- .. and what it leaves
-  pub finish_done : (result : JobResult) {direction : RasterDirection4} {kernel : LineKernel} (new : List ℕ)
-      (scratch scratch' : List ℤ) → Done result ≡ job_answer planned → direction ≡ result.direction
-      → kernel ≡ job_kernel config result
-      → Painted 0 (λ c r. clamp_byte (kernel_estimate src.bytes src.width src.height
-      src.stride direction kernel c r))
-      src.width src.height dst.stride dst.bytes new
-      → Finished d l src dst new config scratch scratch' (Done result)
-  finish_done result new scratch scratch' e along is painted =
-      outcome_accepted job_answer (JobWrites src dst.stride config)
-      dst.bytes scratch result new scratch' (job_decided_lem e) refl
-      (rw (along, is) at painted)
+  pub finish_asked : (result : JobResult) → LengthTaken src.width src.height result.blur_length
+      → AlongAsked (length src.bytes) src.width src.height src.stride (job_kernel config result) scratch_len
+  finish_asked result long =
+      let p = runs.pictures.source in
+      record {
+        laid = p;
+        taken = restoration_kernel long p.width_most p.height_most config.relaxation config.border
+            runs.relaxation_taken runs.iterations_taken;
+        room = runs.scratch_least;
+      }
 
 -- ---- the whole
 
-length_taken : (bytes : List ℕ) (w h stride : ℕ) (d : RasterDirection4) (t a lent : ℕ)
-    → length_refusal (length bytes) w h stride lent ≡ 0
-    → length_decision (gray8 bytes w h stride) d t a lent ≡ accepts (length_along bytes w h stride d t a)
-unfolding length_decision
-length_taken bytes w h stride d t a lent e = rw e
+refused_number : {R : Type 0} (n : ℕ) (found : R) (number : ℕ) → decided n found ≡ refuses number
+    → (n ≡ number) × (n ≡ 0 → ⊥)
+refused_number zero found number e = absurd (accepts_not_refuses e)
+refused_number (suc n) found number e = let is : suc n ≡ number = cc in (is, λ z. omega arith)
 
-module _ (src dst : Gray8) (config : JobConfig) (scratch : List ℤ) (swings : List Swing) (start : JobStart) where
+length_taken : (src : Gray8) (d : RasterDirection4) (config : LineLengthConfig) (lent : ℕ)
+    → length_refusal (length src.bytes) src.width src.height src.stride lent ≡ 0
+    → length_decision src d config lent ≡ accepts (length_along src d config)
+unfolding length_decision
+length_taken src d config lent e = rw e
+
+module _ (src dst : Gray8) (config : JobConfig) (scratch : List ℤ) (swings : List Swing) where
   abbrev j : Job
   j = job_of src (layout_of dst) config (length scratch) (length swings)
 
-  module _ (starts : JobStarts j start) where
-    -- it is refused before anything is measured
-    pub job_refused : (start.refusal ≡ 0 → ⊥)
-        → Restored src dst dst.bytes config scratch scratch swings swings (Refused start.refusal)
-    job_refused some =
-        let early = plan_early j (λ e. some (starts.refusal_is ∙ e)) in
-        outcome_refused {S = List ℤ × List Swing} job_answer (JobWrites src dst.stride config) dst.bytes
-        (scratch, swings) start.refusal (early.0 ∙ ap refuses (sym starts.refusal_is)) refl
+  abbrev limits : LineLengthConfig
+  limits = thresholds config.minimum_transitions config.minimum_amplitude
 
-    module _ (none : start.refusal ≡ 0) where
-      abbrev accepted-job : JobAccepted j
-      accepted-job = job_accepted j (start_none j (sym starts.refusal_is ∙ none)).0
+  -- it is refused before anything is measured
+  pub job_refused : (number : ℕ) (answer : Result JobResult Refusal) → refuses number ≡ start_decision j
+      → told answer ≡ refuses number → Restored src dst dst.bytes config scratch scratch swings swings answer
+  job_refused number answer e answered =
+      let n = refused_number (start_refusal j) (job_direction j) number (sym e) in
+      outcome_refused {S = List ℤ × List Swing} same (JobWrites src dst.stride config) dst.bytes (scratch, swings)
+      number ((plan_early j n.1).0 ∙ ap refuses n.0) answered
 
-      -- what the end of the job asks
-      pub job_runs : Runnable src (layout_of dst) config (length scratch)
-      job_runs = accepted-job.runnable
+  -- it is not, so that it has a direction
+  module _ {d : RasterDirection4} (start : accepts d ≡ start_decision j) (taken : JobAccepted j) where
+    starts : (start_refusal j ≡ 0) × (job_direction j ≡ d)
+    starts = decided_accepts (start_refusal j) (job_direction j) d (sym start)
 
-      module _ (swings' : List Swing) (measured : LengthAnswer)
-          (m : LengthMeasured src start.direction config.minimum_transitions config.minimum_amplitude
-          swings swings' measured) where
-        abbrev taken : start_refusal j ≡ 0
-        taken = sym starts.refusal_is ∙ none
+    -- what the end of the job asks
+    pub job_runs : Runnable src (layout (length dst.bytes) src.width src.height dst.stride) config (length scratch)
+    job_runs =
+        let r = taken.runnable in
+        let p = r.pictures in
+        record {
+          pictures =
+              record {
+                source = p.source;
+                destination = destination_laid p;
+                same_width = refl;
+                same_height = refl;
+              };
+          iterations_taken = r.iterations_taken;
+          relaxation_taken = r.relaxation_taken;
+          scratch_least = r.scratch_least;
+        }
 
-        planned-is : plan_length src.width src.height start.direction (length_in measured) ≡ plan j
+    module _ {swings' : List Swing} where
+      -- the length is not refused
+      pub length_told : (answer : Result (Option Float) Refusal) → LengthMeasured src d limits swings swings' answer
+          → told answer ≡ accepts (job_length j)
+      length_told answer m =
+          let none =
+          refusal_none (length src.bytes) src.width src.height src.stride (length swings)
+          (accepted taken.runnable.pictures.source) taken.swings_least in
+          m.answered
+          ∙ length_taken src d limits (length swings) none
+          ∙ ap (λ (d : RasterDirection4). accepts (length_along src d limits)) (sym starts.1)
+
+      module _ {measured : Option Float} (m : LengthMeasured src d limits swings swings' (Ok measured)) where
+        planned-is : plan_length src.width src.height d measured ≡ plan j
         unfolding plan
         planned-is =
-            let lent = length swings in
-            let found : length_in measured ≡ job_length j =
-            ap length_in
-            (m.answered
-            ∙ (λ i. length_answer (length_decision src (starts.direction_is taken i) config.minimum_transitions
-            config.minimum_amplitude lent))
-            ∙ ap length_answer
-            (length_taken src.bytes src.width src.height src.stride (job_direction j)
-            config.minimum_transitions config.minimum_amplitude lent
-            (refusal_none (length src.bytes) src.width src.height src.stride lent
-            (accepted job_runs.pictures.source) accepted-job.swings_least)))
-            in rw (taken, found, starts.direction_is taken)
+            let found : accepts measured ≡ accepts (job_length j) = length_told (Ok measured) m in
+            let same-length : measured ≡ job_length j = cc in
+            let f = λ (d : RasterDirection4) (l : Option Float). plan_length src.width src.height d l in
+            ap₂ f (sym starts.1) same-length ∙ sym (ap (λ (n : ℕ). unless n (f (job_direction j) (job_length j))) starts.0)
 
-        pub job_outcome : (new : List ℕ) (scratch' : List ℤ) (answer : JobAnswer)
-            → Finished start.direction (length_in measured) src dst new config scratch scratch' answer
-            → Restored src dst new config scratch scratch' swings swings' answer
-        job_outcome new scratch' answer f =
+        pub late_refused : (number : ℕ) (answer : Result JobResult Refusal)
+            → refuses number ≡ plan_length src.width src.height d measured → told answer ≡ refuses number
+            → Restored src dst dst.bytes config scratch scratch swings swings' answer
+        late_refused number answer e answered =
+            let is = sym planned-is ∙ sym e in
             record {
-              answered = f.answered ∙ ap job_answer planned-is;
-              written = λ result e. f.written result (planned-is ∙ e);
-              dst_kept = λ number e. f.dst_kept number (planned-is ∙ e);
-              scratch_kept = λ number e leaves. absurd (plan_leaves j e leaves taken);
+              answered = answered ∙ sym is;
+              written = λ result z. absurd (accepts_not_refuses (sym z ∙ is));
+              dst_kept = λ _ _. refl;
+              scratch_kept = λ number' z leaves. absurd (plan_leaves j z leaves starts.0);
             }
+
+        module _ {result : JobResult} (e : accepts result ≡ plan_length src.width src.height d measured) where
+          pub length_long : LengthTaken src.width src.height result.blur_length
+          length_long = (plan_along src.width src.height d measured result (sym e)).taken
+
+          pub job_done : (new : List ℕ) (scratch' : List ℤ) (answer : Result JobResult Refusal)
+              → JobWrites src dst.stride config result dst.bytes new → told answer ≡ accepts result
+              → Restored src dst new config scratch scratch' swings swings' answer
+          job_done new scratch' answer written answered =
+              outcome_accepted {S = List ℤ × List Swing} same (JobWrites src dst.stride config) dst.bytes
+              (scratch, swings) result new (scratch', swings') (sym planned-is ∙ sym e) answered written

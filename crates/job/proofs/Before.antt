@@ -6,13 +6,14 @@ use mathlib.Core.Path.{◌≡◌, ap}
 use lib.Dec.{ltb}
 use lib.ListN.{length}
 use Rattle.numbers.proofs.Test.{or_false_intro, or_false_left, or_false_right}
-use Rattle.image.specs.Call.{Gray8, Decision, unless}
+use Rattle.std.specs.Prelude.{Err}
+use Rattle.image.specs.Call.{Gray8, Decision, refuses, unless, same}
+use Rattle.image.specs.declared.refusal.Refusal.TheVariants.{LentTooSmall}
 use Rattle.image.specs.Refusal.{first_refusal, Laid}
 use Rattle.image.proofs.Pair.{laid_pair}
 use Rattle.deblur.specs.Before.{scratch_before, AsBefore}
 use Rattle.deblur.specs.Refusal.{scratch_needed, iterated_refusal}
 use Rattle.deblur.proofs.Before.{long_enough, order_as_before, outcome_as_before}
-use Rattle.job.specs.declared.JobAnswer.TheVariants.{Refused}
 use Rattle.job.specs.declared.JobConfig.{JobConfig}
 use Rattle.job.specs.declared.JobResult.{JobResult}
 use Rattle.job.specs.Before.{plan_before, RestoredBefore}
@@ -28,7 +29,6 @@ use Rattle.job.specs.Job.{
   job_direction,
   job_length,
   plan,
-  job_answer,
   JobWrites,
   Restored,
 }
@@ -56,7 +56,7 @@ module _ (j : Job) where
   abbrev few : Bool
   few = ltb j.swings_len (w * h)
 
-  pub plan_as_before : (job_answer (plan_before j) ≡ Refused 10 → ⊥) → plan j ≡ plan_before j
+  pub plan_as_before : (plan_before j ≡ refuses 10 → ⊥) → plan j ≡ plan_before j
   unfolding plan start_refusal job_refusal
   plan_as_before not-ten =
       ap (λ (k : ℕ). unless (first_refusal k floor) measured)
@@ -65,14 +65,14 @@ module _ (j : Job) where
       (λ e short.
       let l : Laid (length j.source.bytes) w h j.source.stride = (laid_pair e).source in
       or_false_intro (long_enough l j.scratch_len (or_false_left was few short)) (or_false_right was few short))
-      (λ e. not-ten (ap (λ (k : ℕ). job_answer (unless (first_refusal k floor) measured)) e)))
+      (λ e. not-ten (ap (λ (k : ℕ). unless (first_refusal k floor) measured) e)))
 
 pub restored_as_before : (src dst : Gray8) (config : JobConfig)
-    → AsBefore lengths (Refused 10)
+    → AsBefore lengths (Err LentTooSmall)
     (λ lent lent' new answer. RestoredBefore src dst new config lent.0 lent'.0 lent.1 lent'.1 answer)
     (λ lent lent' new answer. Restored src dst new config lent.0 lent'.0 lent.1 lent'.1 answer)
 restored_as_before src dst config =
     outcome_as_before lengths (λ sizes. plan_before (job_of src (layout_of dst) config sizes.0 sizes.1))
-    (λ sizes. plan (job_of src (layout_of dst) config sizes.0 sizes.1)) job_answer
-    (JobWrites src dst.stride config) (job_one src dst.stride config) dst.bytes (Refused 10)
+    (λ sizes. plan (job_of src (layout_of dst) config sizes.0 sizes.1)) same
+    (JobWrites src dst.stride config) (job_one src dst.stride config) dst.bytes LentTooSmall
     (λ sizes. plan_as_before (job_of src (layout_of dst) config sizes.0 sizes.1))

@@ -13,8 +13,7 @@ use lib.Ieee.{Float}
 use lib.ListN.{length}
 use Rattle.numbers.proofs.Test.{or_false_intro, ap_cond, ltb_iff}
 use Rattle.floats.specs.Odd.{odd_length}
-use Rattle.floats.specs.declared.OddLength.{OddLength}
-use Rattle.floats.specs.declared.OddLength.TheVariants.{Length, Beyond}
+use Rattle.std.specs.Prelude.{Option, Some, None}
 use Rattle.image.specs.Call.{accepts, refuses, number_of}
 use Rattle.image.specs.Conditions.{given, Matches, FirstMatch, Exactly}
 use Rattle.image.proofs.Conditions.{exactly, match_none, match_test, not_given, match_unless_decided}
@@ -24,8 +23,6 @@ use Rattle.image.specs.Refusal.{first_refusal}
 use Rattle.image.proofs.Pair.{accepted_pair}
 use Rattle.raster.specs.declared.direction.RasterDirection4.{RasterDirection4}
 use Rattle.line.specs.Kernel.{max_blur_length}
-use Rattle.blur.specs.declared.length.LineLength.{LineLength}
-use Rattle.blur.specs.declared.length.LineLength.TheVariants.{Found, Nothing}
 use Rattle.deblur.specs.Refusal.{scratch_needed, iterated_refusal}
 use Rattle.deblur.proofs.Conditions.{iterated_matches, pair_ten}
 use Rattle.deblur.proofs.Refusals.{order_0, iterated_0}
@@ -52,24 +49,24 @@ use Rattle.job.proofs.Plans.{start_none, floor_confident, floor_other}
 -- ---- 11 and 12
 
 module _ (width height : ℕ) (d : RasterDirection4) where
-  odd-matches : (estimate : Float) (o : OddLength)
+  odd-matches : (estimate : Float) (o : Option ℕ)
       → FirstMatch (given 12 (Exceeds (max_blur_length width height) o) ∷ [])
       (number_of (plan_odd width height d estimate o))
-  odd-matches estimate (Length L) =
+  odd-matches estimate (Some L) =
       let long = ltb (max_blur_length width height) L in
       let result : JobResult = record { direction = d; blur_length = L; estimate = estimate } in
       rw (ap_cond number_of long (refuses 12) (accepts result))
       (match_test 12 match_none (ltb_iff (max_blur_length width height) L))
-  odd-matches estimate Beyond = record { matches = inl (tt, refl) }
+  odd-matches estimate None = record { matches = inl (tt, refl) }
 
-  measured-matches : (l : LineLength)
+  measured-matches : (l : Option Float)
       → FirstMatch (measured_conditions width height l) (number_of (plan_length width height d l))
-  measured-matches (Found estimate) =
+  measured-matches (Some estimate) =
       let odd = odd-matches estimate (odd_length estimate) in
       record { matches = inr (λ e. let z : ◌≡◌ {A = ℕ} 0 1 = cc in omega arith, odd.matches) }
-  measured-matches Nothing = record { matches = inl (refl, refl) }
+  measured-matches None = record { matches = inl (refl, refl) }
 
-  length_iff : (l : LineLength) → (number_of (plan_length width height d l) ≡ 0) ↔ LengthFits width height l
+  length_iff : (l : Option Float) → (number_of (plan_length width height d l) ≡ 0) ↔ LengthFits width height l
   length_iff l =
       let at-0 = exactly (measured-matches l) 0 in (
         λ e. go (at-0.0 e).matches,

@@ -15,25 +15,27 @@ use Rattle.numbers.specs.Written.{Painted, pixels}
 use Rattle.numbers.proofs.Written.{written_kept, painted_get}
 use Rattle.floats.specs.Factor.{within, rounded_q16}
 use Rattle.floats.proofs.Factor.{rounded_le}
-use Rattle.image.specs.Call.{Decision, accepts, refuses}
+use Rattle.image.specs.Call.{Decision, accepts, refuses, map_found}
 use Rattle.image.specs.Picture.{pixel}
 use Rattle.image.specs.Refusal.{Laid}
-use Rattle.image.proofs.Call.{decided_none}
+use Rattle.image.proofs.Call.{accepts_not_refuses, decided_none}
 use Rattle.image.proofs.Pair.{destination_laid}
-use Rattle.image.proofs.Refusal.{place_within}
+use Rattle.image.proofs.Accepted.{place_within}
 use Rattle.raster.specs.Direction.{from_angle, angle_of, snaps}
 use Rattle.line.specs.Near.{Near, cut}
-use Rattle.deblur.specs.Calls.{decided_along, last_estimate, estimate_decision}
+use Rattle.raster.specs.declared.direction.RasterDirection4.{RasterDirection4}
+use Rattle.deblur.specs.declared.RestorationMetadata.{RestorationMetadata}
+use Rattle.deblur.specs.Calls.{metadata_of, decided_along, last_estimate, estimate_decision}
 use Rattle.deblur.specs.Refusal.{scratch_needed, LengthTaken}
-use Rattle.deblur.proofs.Decided.{along_accepts, answer_done}
+use Rattle.deblur.proofs.Decided.{along_accepts}
 use Rattle.deblur.proofs.Refusals.{estimate_accepted, accepted_estimate}
 use Rattle.job.specs.declared.JobResult.{JobResult}
-use Rattle.job.specs.Job.{Job, job_of, layout_of, JobAccepted, job_estimate, plan, job_answer}
+use Rattle.job.specs.Job.{Job, job_of, layout_of, JobAccepted, job_estimate, plan}
 use Rattle.swings.specs.declared.Swing.{Swing}
 use Rattle.job.specs.ExactJob.{exact_after}
 use Rattle.job.specs.Demands.{estimate_filter, EstimateCall, estimate_at, Demand1, Demand_3_accepted, Demand3}
 use Rattle.job.proofs.NearPicture.{pixel_near, byte_near}
-use Rattle.job.proofs.Plans.{job_decided_lem, plan_accepted, plan_length_holds}
+use Rattle.job.proofs.Plans.{plan_accepted, plan_length_holds}
 use Rattle.job.proofs.Settings.{estimate_taken}
 
 -- ---- demand 1
@@ -53,9 +55,9 @@ demand_1 src dst new config scratch scratch' swings swings' answer o =
     let px : JobResult → ℕ → ℕ → ℕ = λ result c r. clamp_byte (job_estimate src config result config.iterations c r) in
     let kept = dst_keeps src.width src.height dst.stride px (plan j) o.written o.dst_kept in
     record {
-      refused_dst = λ number e. o.dst_kept number (job_decided_lem (sym e ∙ o.answered));
+      refused_dst = λ number e. o.dst_kept number (sym o.answered ∙ e);
       refused_scratch = λ number e not_11 not_12.
-          let same = o.scratch_kept number (job_decided_lem (sym e ∙ o.answered))
+          let same = o.scratch_kept number (sym o.answered ∙ e)
           (record { not_11 = not_11; not_12 = not_12 }) in
           (ap (λ (p : List ℤ × List Swing). p.0) same, ap (λ (p : List ℤ × List Swing). p.1) same);
       same_length = kept.0;
@@ -63,6 +65,12 @@ demand_1 src dst new config scratch scratch' swings swings' answer o =
     }
 
 -- ---- demand 3
+
+-- the direction that an accepted call answers
+found_direction : (decision : Decision RasterDirection4) (m : RestorationMetadata)
+    → map_found metadata_of decision ≡ accepts m → decision ≡ accepts m.raster_direction
+found_direction (accepts d) m e = cc
+found_direction (refuses number) m e = absurd (accepts_not_refuses (sym e))
 
 -- a row-by-row destination of w × h places has one for each pixel
 place_tight : (w h c r n : ℕ) → c < w → r < h → w * h ≤ n → r * w + c < n
@@ -118,7 +126,7 @@ module _ (j : Job) (result : JobResult) (done : plan j ≡ accepts result) where
   estimates_are k estimates call c r hc hr =
       let f = estimate_filter j.config result k in
       let decision = estimate_decision j.source (length call.old) f (length call.scratch) in
-      let done = answer_done decision call.metadata (sym call.outcome.answered) in
+      let done = found_direction decision call.metadata (sym call.outcome.answered) in
       let e = (along_accepts _ f.direction _ done).0 in
       let a = estimate_accepted _ _ _ _ _ _ _ e in
       painted_get (last_estimate j.source f.kernel result.direction) w h w
@@ -140,7 +148,7 @@ module _ (j : Job) (result : JobResult) (done : plan j ≡ accepts result) where
     accepted-3 =
         record {
           exact_result = result;
-          exact_accepts = ap job_answer done;
+          exact_accepts = done;
           same_direction = refl;
           same_length = refl;
           estimate_accepted = call_accepted;
@@ -162,6 +170,6 @@ demand_3 src dst new config scratch scratch' swings swings' answer o =
       refuses = λ number e. sym o.answered ∙ e;
       refuses_too = λ number e. o.answered ∙ e;
       accepts = λ result e.
-          let done = job_decided_lem (sym e ∙ o.answered) in
+          let done = sym o.answered ∙ e in
           accepted-3 _ result done dst.bytes new refl (o.written result done);
     }

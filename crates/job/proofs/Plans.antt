@@ -5,9 +5,9 @@ use mathlib.Core.Bool.{Bool, true, false, cond}
 use mathlib.Core.List.{List, ◌++◌}
 use mathlib.Core.Logic.{◌⊎◌, inl, inr, ⊎_elim, ◌↔◌}
 use mathlib.Core.Path.{◌≡◌, refl, sym, ap, ◌∙◌, subst}
-use Prim.Native.Nat.{ℕ, ◌+◌, ◌*◌, ◌%◌, ◌^◌, ◌≤◌, ◌<◌}
+use Prim.Native.Nat.{ℕ, ◌*◌, ◌%◌, ◌^◌, ◌≤◌}
 use native.Mathlib.Omega.{arith}
-use borrow.Author.Tests.{lt-ltb, le-ltb, ltb-false}
+use borrow.Author.Tests.{ltb-false}
 use lib.Dec.{T, ltb, leb}
 use lib.Ieee.{Float, nan, inf, fin, binary64, up, down}
 use lib.Ieee.Fits.{down_pos}
@@ -15,12 +15,11 @@ use lib.Ieee.Positive.{positive, above}
 use lib.ListN.{length}
 use Rattle.numbers.proofs.Test.{or_false_left, or_false_right, ltb_iff, or_iff}
 use Rattle.floats.specs.Odd.{odd_of, odd_length}
-use Rattle.floats.specs.declared.OddLength.{OddLength}
-use Rattle.floats.specs.declared.OddLength.TheVariants.{Length, Beyond}
+use Rattle.std.specs.Prelude.{Option, Some, None}
 use Rattle.floats.proofs.Odd.{odd_of_odd, odd_of_three}
 use Rattle.image.specs.Call.{Gray8, Decision, accepts, refuses, unless, KeepsScratch}
+use Rattle.image.specs.declared.layout.Layout.{Layout}
 use Rattle.image.specs.Conditions.{Refusal, FirstMatch, pair_conditions}
-use Rattle.image.specs.Refusal.{first_refusal}
 use Rattle.image.proofs.Call.{unless_refuses, unless_accepts}
 use Rattle.image.proofs.Chain.{first_zero}
 use Rattle.image.proofs.Conditions.{Numbered, match_none, match_test, not_given, match_then}
@@ -29,29 +28,17 @@ use Rattle.image.proofs.Pair.{laid_pair}
 use Rattle.raster.specs.declared.direction.RasterDirection4.{RasterDirection4}
 use Rattle.tensor.specs.Tensor.{picture_sums}
 use Rattle.tensor.proofs.Conditions.{confidence_matches, confidence_iff}
-use Rattle.blur.specs.declared.length.LengthAnswer.{LengthAnswer}
-use Rattle.blur.specs.declared.length.LengthAnswer.TheVariants as answered
-use Rattle.blur.specs.declared.length.LineLength.{LineLength}
-use Rattle.blur.specs.declared.length.LineLength.TheVariants.{Found, Nothing}
+use Rattle.blur.specs.Length.{thresholds}
 use Rattle.blur.specs.Select.{Positive}
 use Rattle.blur.proofs.Above.{length_above}
 use Rattle.line.specs.Kernel.{max_blur_length}
 use Rattle.deblur.specs.Conditions.{iterated_conditions}
-use Rattle.deblur.specs.Refusal.{
-  scratch_needed,
-  iterated_refusal,
-  scratch_short,
-  lent_refusal,
-  LengthTaken,
-}
+use Rattle.deblur.specs.Refusal.{scratch_needed, iterated_refusal, scratch_short, LengthTaken}
 use Rattle.deblur.proofs.Conditions.{iterated_matches}
-use Rattle.deblur.proofs.Refusals.{iterated_taken, order_pictures, order_lent, order_zero}
+use Rattle.deblur.proofs.Refusals.{iterated_taken, order_zero}
 use Rattle.job.specs.declared.JobResult.{JobResult}
-use Rattle.job.specs.declared.JobAnswer.{JobAnswer}
-use Rattle.job.specs.declared.JobAnswer.TheVariants.{Done, Refused}
 use Rattle.job.specs.Conditions.{ConfidentJob, lent_conditions, floor_conditions}
 use Rattle.job.specs.Job.{
-  Layout,
   Job,
   lent_short,
   pictures_refusal,
@@ -61,23 +48,10 @@ use Rattle.job.specs.Job.{
   plan_odd,
   plan_length,
   plan,
-  job_answer,
-  job_decided,
   job_direction,
   job_length,
   JobAccepted,
 }
-use Rattle.job.specs.Parts.{length_in}
-
--- ---- an answer and its decision
-
-pub job_told : (decision : Decision JobResult) → job_decided (job_answer decision) ≡ decision
-job_told (accepts result) = refl
-job_told (refuses number) = refl
-
-pub job_decided_lem : {decision : Decision JobResult} {answer : JobAnswer} → answer ≡ job_answer decision
-    → decision ≡ job_decided answer
-job_decided_lem {decision} e = sym (job_told decision) ∙ ap job_decided (sym e)
 
 -- ---- the order of the numbers
 
@@ -90,14 +64,6 @@ module _ (j : Job) where
 
   abbrev short : Bool
   short = lent_short j.source.width j.source.height j.scratch_len j.swings_len
-
-  pub job_pictures : (pictures ≡ 0 → ⊥) → job_refusal j ≡ pictures
-  unfolding job_refusal
-  job_pictures = order_pictures pictures settings short
-
-  pub job_lent : pictures ≡ 0 → job_refusal j ≡ first_refusal settings (lent_refusal short)
-  unfolding job_refusal
-  job_lent = order_lent pictures settings short
 
   pub job_accepted : job_refusal j ≡ 0 → JobAccepted j
   unfolding job_refusal
@@ -187,7 +153,7 @@ module _ (j : Job) where
 
 -- ---- the length of a plan
 
-odd_taken : (x : Float) (L : ℕ) → odd_length x ≡ Length L → (3 ≤ L) × (L % 2 ≡ 1)
+odd_taken : (x : Float) (L : ℕ) → odd_length x ≡ Some L → (3 ≤ L) × (L % 2 ≡ 1)
 unfolding odd_length
 odd_taken nan L e = let z : ◌≡◌ {A = ℕ} 0 1 = cc in absurd (omega arith)
 odd_taken (inf true) L e = let same : 3 ≡ L = cc in (omega arith, omega arith)
@@ -196,12 +162,12 @@ odd_taken (fin true m e') L e = let same : 3 ≡ L = cc in (omega arith, omega a
 odd_taken (fin false m e') L e = go (leb (m * up e') (2 ^ 53 * down e')) (odd_of (m * up e') (down e'))
     (odd_of_three (m * up e') (down e') (down_pos e')) (odd_of_odd (m * up e') (down e') (down_pos e')) e
   where
-    go : (b : Bool) (n : ℕ) → 3 ≤ n → n % 2 ≡ 1 → cond b (Length n) Beyond ≡ Length L → (3 ≤ L) × (L % 2 ≡ 1)
+    go : (b : Bool) (n : ℕ) → 3 ≤ n → n % 2 ≡ 1 → cond b (Some n) None ≡ Some L → (3 ≤ L) × (L % 2 ≡ 1)
     go true n h o e = let same : n ≡ L = cc in (omega arith, omega arith)
     go false n h o e = let z : ◌≡◌ {A = ℕ} 0 1 = cc in absurd (omega arith)
 
 -- no length is answered for an infinite estimate
-odd_finite : (x : Float) (L : ℕ) → odd_length x ≡ Length L → T (above x) → T (positive x)
+odd_finite : (x : Float) (L : ℕ) → odd_length x ≡ Some L → T (above x) → T (positive x)
 unfolding odd_length
 odd_finite nan L e a = a
 odd_finite (inf true) L e a = a
@@ -210,60 +176,39 @@ odd_finite (fin true m e') L e a = a
 odd_finite (fin false m e') L e a = a
 
 -- what a result has: its estimate is the length found, and its blur length is that of the estimate
-pub record Measured (width height : ℕ) (l : LineLength) (result : JobResult) : Type 0 where
-  pub found : l ≡ Found result.estimate
-  pub rounded : odd_length result.estimate ≡ Length result.blur_length
+pub record Measured (width height : ℕ) (l : Option Float) (result : JobResult) : Type 0 where
+  pub found : l ≡ Some result.estimate
+  pub rounded : odd_length result.estimate ≡ Some result.blur_length
   pub taken : LengthTaken width height result.blur_length
 
 module _ (width height : ℕ) (d : RasterDirection4) where
-  plan-odd : (estimate : Float) (o : OddLength) (result : JobResult) → odd_length estimate ≡ o
+  plan-odd : (estimate : Float) (o : Option ℕ) (result : JobResult) → odd_length estimate ≡ o
       → plan_odd width height d estimate o ≡ accepts result
-      → Measured width height (Found estimate) result
-  plan-odd estimate (Length L) result o e = go (ltb (max_blur_length width height) L) refl e
+      → Measured width height (Some estimate) result
+  plan-odd estimate (Some L) result o e = go (ltb (max_blur_length width height) L) refl e
     where
       go : (b : Bool) → ltb (max_blur_length width height) L ≡ b
           → cond b (refuses 12) (accepts (record { direction = d; blur_length = L; estimate = estimate }))
           ≡ accepts result
-          → Measured width height (Found estimate) result
+          → Measured width height (Some estimate) result
       go true t e = let z : ◌≡◌ {A = ℕ} 0 1 = cc in absurd (omega arith)
       go false t e =
           let same : record { direction = d; blur_length = L; estimate = estimate } ≡ result = cc in
           let taken = odd_taken estimate L o in
-          subst (Measured width height (Found estimate)) same
+          subst (Measured width height (Some estimate)) same
           (record {
             found = refl;
             rounded = o;
             taken = record { least = taken.0; odd = taken.1; most = ltb-false (max_blur_length width height) L t };
           })
-  plan-odd estimate Beyond result o e = let z : ◌≡◌ {A = ℕ} 0 1 = cc in absurd (omega arith)
+  plan-odd estimate None result o e = let z : ◌≡◌ {A = ℕ} 0 1 = cc in absurd (omega arith)
 
-  -- the tests of the code
-  pub plan_12 : (estimate : Float) (L : ℕ) → odd_length estimate ≡ Length L → 2 * width + 1 < L → 2 * height + 1 < L
-      → Refused 12 ≡ job_answer (plan_odd width height d estimate (odd_length estimate))
-  plan_12 estimate L e a b = rw (e, lt-ltb (max_blur_length width height) L (omega arith))
-
-  pub plan_beyond : (estimate : Float) → odd_length estimate ≡ Beyond
-      → Refused 12 ≡ job_answer (plan_odd width height d estimate (odd_length estimate))
-  plan_beyond estimate e = rw e
-
-  pub plan_fits : (estimate : Float) (L : ℕ) → odd_length estimate ≡ Length L
-      → (L ≤ 2 * width + 1) ⊎ (L ≤ 2 * height + 1)
-      → Done (record { direction = d; blur_length = L; estimate = estimate })
-      ≡ job_answer (plan_odd width height d estimate (odd_length estimate))
-  plan_fits estimate L e (inl a) = rw (e, le-ltb (max_blur_length width height) L (omega arith))
-  plan_fits estimate L e (inr b) = rw (e, le-ltb (max_blur_length width height) L (omega arith))
-
-  pub plan_along : (l : LineLength) (result : JobResult) → plan_length width height d l ≡ accepts result
+  pub plan_along : (l : Option Float) (result : JobResult) → plan_length width height d l ≡ accepts result
       → Measured width height l result
-  plan_along (Found estimate) result e = plan-odd estimate (odd_length estimate) result refl e
-  plan_along Nothing result e = let z : ◌≡◌ {A = ℕ} 0 1 = cc in absurd (omega arith)
+  plan_along (Some estimate) result e = plan-odd estimate (odd_length estimate) result refl e
+  plan_along None result e = let z : ◌≡◌ {A = ℕ} 0 1 = cc in absurd (omega arith)
 
-  pub plan_found : {m : LengthAnswer} {l : LineLength} {estimate : Float} {answer : JobAnswer} → m ≡ answered.Length l
-      → l ≡ Found estimate → answer ≡ job_answer (plan_odd width height d estimate (odd_length estimate))
-      → answer ≡ job_answer (plan_length width height d (length_in m))
-  plan_found f g is = rw (f, g) is
-
-  plan-from-done : (n : ℕ) (l : LineLength) (result : JobResult)
+  plan-from-done : (n : ℕ) (l : Option Float) (result : JobResult)
       → unless n (plan_length width height d l) ≡ accepts result
       → (n ≡ 0) × Measured width height l result
   plan-from-done n l result e =
@@ -273,8 +218,8 @@ module _ (width height : ℕ) (d : RasterDirection4) where
 -- ---- 11 and 12 come after all others
 
 module _ (width height : ℕ) (d : RasterDirection4) (number : ℕ) where
-  late-odd : (estimate : Float) (o : OddLength) → plan_odd width height d estimate o ≡ refuses number → number ≡ 12
-  late-odd estimate (Length L) e = go (ltb (max_blur_length width height) L) e
+  late-odd : (estimate : Float) (o : Option ℕ) → plan_odd width height d estimate o ≡ refuses number → number ≡ 12
+  late-odd estimate (Some L) e = go (ltb (max_blur_length width height) L) e
     where
       go : (b : Bool)
           → cond {A = Decision JobResult} b (refuses 12)
@@ -282,11 +227,11 @@ module _ (width height : ℕ) (d : RasterDirection4) (number : ℕ) where
           → number ≡ 12
       go true e = let same : 12 ≡ number = cc in sym same
       go false e = let z : ◌≡◌ {A = ℕ} 0 1 = cc in absurd (omega arith)
-  late-odd estimate Beyond e = let same : 12 ≡ number = cc in sym same
+  late-odd estimate None e = let same : 12 ≡ number = cc in sym same
 
-  late-length : (l : LineLength) → plan_length width height d l ≡ refuses number → (number ≡ 11) ⊎ (number ≡ 12)
-  late-length (Found estimate) e = inr (late-odd estimate (odd_length estimate) e)
-  late-length Nothing e = let same : 11 ≡ number = cc in inl (sym same)
+  late-length : (l : Option Float) → plan_length width height d l ≡ refuses number → (number ≡ 11) ⊎ (number ≡ 12)
+  late-length (Some estimate) e = inr (late-odd estimate (odd_length estimate) e)
+  late-length None e = let same : 11 ≡ number = cc in inl (sym same)
 
 pub plan_late : (j : Job) {number : ℕ} → start_refusal j ≡ 0 → plan j ≡ refuses number → (number ≡ 11) ⊎ (number ≡ 12)
 unfolding plan
@@ -321,7 +266,7 @@ module _ (j : Job) {result : JobResult} (e : plan j ≡ accepts result) where
   pub plan_length_holds : LengthTaken j.source.width j.source.height result.blur_length
   plan_length_holds = plan-done.1.taken
 
-  pub plan_measured : job_length j ≡ Found result.estimate
+  pub plan_measured : job_length j ≡ Some result.estimate
   plan_measured = plan-done.1.found
 
   pub plan_estimate : Positive binary64 result.estimate
@@ -329,7 +274,7 @@ module _ (j : Job) {result : JobResult} (e : plan j ≡ accepts result) where
       let m = plan-done.1 in
       let s = j.source in
       let a =
-      length_above s.bytes s.width s.height s.stride (job_direction j) j.config.minimum_transitions
-      j.config.minimum_amplitude result.estimate m.found
+      length_above s (job_direction j) (thresholds j.config.minimum_transitions j.config.minimum_amplitude)
+      result.estimate m.found
       in
       record { above = odd_finite result.estimate result.blur_length m.rounded a.above; holds = a.holds }

@@ -5,25 +5,27 @@ use Prim.Native.Nat.{ℕ, ◌<◌}
 use mathlib.Core.List.{List}
 use mathlib.Core.Path.{◌≡◌, ap, ◌∙◌}
 use lib.IntN.{ℤ}
+use Rattle.std.specs.Prelude.{Result}
 use lib.ListN.{length}
 use Rattle.numbers.specs.Scalar.{clamp_byte}
 use Rattle.image.specs.Call.{Gray8}
+use Rattle.image.specs.declared.layout.Layout.{Layout}
+use Rattle.image.specs.declared.refusal.Refusal.{Refusal}
 use Rattle.image.specs.Same.{SamePicture, SameLayout, SameEnd}
 use Rattle.image.proofs.Pair.{destination_laid}
+use Rattle.image.proofs.Told.{told_one}
 use Rattle.image.proofs.Same.{pair_same, ends_alike}
 use Rattle.raster.specs.declared.direction.RasterDirection4.{RasterDirection4}
 use Rattle.tensor.specs.declared.direction.DirectionEstimate.{DirectionEstimate}
 use Rattle.tensor.proofs.Same.{sums_same, found_same}
 use Rattle.swings.specs.declared.Swing.{Swing}
-use Rattle.blur.specs.Length.{length_along}
+use Rattle.blur.specs.Length.{thresholds, length_along}
 use Rattle.blur.proofs.SameLength.{along_same}
 use Rattle.deblur.specs.Settings.{line_kernel}
 use Rattle.deblur.proofs.Same.{last_same}
-use Rattle.job.specs.declared.JobAnswer.{JobAnswer}
 use Rattle.job.specs.declared.JobConfig.{JobConfig}
 use Rattle.job.specs.declared.JobResult.{JobResult}
 use Rattle.job.specs.Job.{
-  Layout,
   layout_of,
   job_of,
   job_refusal,
@@ -62,9 +64,9 @@ module _ {a b : Gray8} (same : SamePicture a b) where
     length_same : job_length (job_of a dst config scratch_len swings_len)
         ≡ job_length (job_of b dst config scratch_len swings_len)
     length_same =
-        ap (λ (d : RasterDirection4). length_along a.bytes a.width a.height a.stride d
-        config.minimum_transitions config.minimum_amplitude) direction_same
-        ∙ along_same same (picture_direction b) config.minimum_transitions config.minimum_amplitude
+        let limits = thresholds config.minimum_transitions config.minimum_amplitude in
+        ap (λ (d : RasterDirection4). length_along a d limits) direction_same
+        ∙ along_same same limits (picture_direction b)
 
     pub plan_same : plan (job_of a dst config scratch_len swings_len) ≡ plan (job_of b dst config scratch_len swings_len)
     unfolding plan
@@ -78,14 +80,17 @@ module _ {a b : Gray8} (same : SamePicture a b) where
 
   pub restored_same : {dst dst' : Gray8} {new new' : List ℕ} (config : JobConfig)
       {scratch scratch₁ scratch' scratch₁' : List ℤ} {swings swings₁ swings' swings₁' : List Swing}
-      {answer answer' : JobAnswer} → SameLayout dst dst' → length scratch ≡ length scratch'
+      {answer answer' : Result JobResult Refusal} → SameLayout dst dst' → length scratch ≡ length scratch'
       → length swings ≡ length swings' → Restored a dst new config scratch scratch₁ swings swings₁ answer
       → Restored b dst' new' config scratch' scratch₁' swings' swings₁' answer'
       → SameEnd (plan (job_of a (layout_of dst) config (length scratch) (length swings))) 0 a.width a.height
       dst.stride new new' answer answer'
-  restored_same config alike lent records =
+  restored_same config {answer = answer} {answer'} alike lent records o o' =
+      let ends =
       ends_alike (λ result c r. clamp_byte (job_estimate a config result config.iterations c r))
       (λ result c r. clamp_byte (job_estimate b config result config.iterations c r)) same
       (job_same config alike lent records) alike.same_stride alike.same_length
       (λ result is. destination_laid (plan_accepted _ is).runnable.pictures)
-      (λ result _ c r hc hr. ap clamp_byte (job_estimate_same config result config.iterations c r hc hr))
+      (λ result _ c r hc hr. ap clamp_byte (job_estimate_same config result config.iterations c r hc hr)) o o'
+      in
+      record { same_answer = told_one answer answer' ends.same_answer; same_pixels = ends.same_pixels }

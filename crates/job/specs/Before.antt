@@ -1,14 +1,14 @@
 -- Document 02, K5: "with the same picture as before on every input accepted before". The contract of the whole job with
 -- 10 as it was, where it asked for document 01's 3 × width × height i32.
-use Rattle.std.specs.Prelude.{ℕ, ◌*◌, ◌||◌, List, ltb, ℤ, length}
-use Rattle.image.specs.Call.{Gray8, Decision, unless, Outcome}
+use Rattle.std.specs.Prelude.{ℕ, ◌*◌, ◌||◌, List, ltb, ℤ, length, Result}
+use Rattle.image.specs.Call.{Gray8, Decision, unless, told, same, Outcome}
+use Rattle.image.specs.declared.refusal.Refusal.{Refusal}
 use Rattle.image.specs.Refusal.{first_refusal}
 use Rattle.swings.specs.declared.Swing.{Swing}
 use Rattle.deblur.specs.Before.{scratch_before}
 use Rattle.deblur.specs.Refusal.{iterated_refusal, in_order}
 use Rattle.job.specs.declared.JobConfig.{JobConfig}
 use Rattle.job.specs.declared.JobResult.{JobResult}
-use Rattle.job.specs.declared.JobAnswer.{JobAnswer}
 use Rattle.job.specs.Job.{
   layout_of,
   Job,
@@ -18,7 +18,6 @@ use Rattle.job.specs.Job.{
   plan_length,
   job_direction,
   job_length,
-  job_answer,
   JobWrites,
 }
 
@@ -35,8 +34,8 @@ plan_before j =
     (plan_length j.source.width j.source.height (job_direction j) (job_length j))
 
 abbrev pub RestoredBefore : Gray8 → Gray8 → List ℕ → JobConfig → List ℤ → List ℤ → List Swing
-    → List Swing → JobAnswer → Type 0
+    → List Swing → Result JobResult Refusal → Type 0
 RestoredBefore src dst new config scratch scratch' swings swings' answer =
     Outcome {S = List ℤ × List Swing} (plan_before (job_of src (layout_of dst) config (length scratch) (length swings)))
-    job_answer
-    (JobWrites src dst.stride config) dst.bytes new (scratch, swings) (scratch', swings') answer
+    same
+    (JobWrites src dst.stride config) dst.bytes new (scratch, swings) (scratch', swings') (told answer)

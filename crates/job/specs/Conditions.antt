@@ -1,31 +1,27 @@
 -- Document 01, "Refusals, first match wins", for the whole job, with document 02's 17: each number with its condition,
 -- in the documents' order. What is accepted: before the picture is looked at `Job: JobAccepted`, and in all
 -- `JobPlanned`.
-use Rattle.std.specs.Prelude.{ℕ, ◌*◌, ◌<◌, List, [], ◌∷◌, ◌++◌, ◌⊎◌, ◌≡◌, length}
+use Rattle.std.specs.Prelude.{ℕ, ◌*◌, ◌<◌, List, [], ◌∷◌, ◌++◌, ◌⊎◌, ◌≡◌, length, Option, Some, None, Float}
 use Rattle.floats.specs.Odd.{odd_length}
-use Rattle.floats.specs.declared.OddLength.{OddLength}
-use Rattle.floats.specs.declared.OddLength.TheVariants.{Length, Beyond}
 use Rattle.image.specs.Call.{Gray8}
 use Rattle.image.specs.Conditions.{Refusal, given, pair_conditions}
 use Rattle.tensor.specs.Confidence.{Confident, confidence_conditions}
 use Rattle.tensor.specs.Tensor.{picture_sums}
 use Rattle.line.specs.Kernel.{max_blur_length}
-use Rattle.blur.specs.declared.length.LineLength.{LineLength}
-use Rattle.blur.specs.declared.length.LineLength.TheVariants.{Found, Nothing}
 use Rattle.deblur.specs.Conditions.{iterated_conditions}
 use Rattle.deblur.specs.Refusal.{scratch_needed}
 use Rattle.job.specs.declared.JobConfig.{JobConfig}
 use Rattle.job.specs.Job.{Job, job_length, JobAccepted}
 
--- a rounded length above the limit; `Beyond` is above every limit
-abbrev pub Exceeds : ℕ → OddLength → Type 0
-Exceeds limit (Length L) = limit < L
-Exceeds limit Beyond = Unit {0}
+-- a rounded length above the limit; where none is answered, it is above every limit
+abbrev pub Exceeds : ℕ → Option ℕ → Type 0
+Exceeds limit (Some L) = limit < L
+Exceeds limit None = Unit {0}
 
 -- "The whole job's rounded length exceeds 2 × max(width, height) + 1"
-abbrev pub TooLong : ℕ → LineLength → Type 0
-TooLong limit (Found estimate) = Exceeds limit (odd_length estimate)
-TooLong limit Nothing = ⊥
+abbrev pub TooLong : ℕ → Option Float → Type 0
+TooLong limit (Some estimate) = Exceeds limit (odd_length estimate)
+TooLong limit None = ⊥
 
 -- document 02, K6: "goes on only where the tensor's confidence .. is at least c / 256"
 abbrev pub ConfidentJob : Gray8 → JobConfig → Type 0
@@ -38,13 +34,13 @@ floor_conditions src config =
     confidence_conditions config.minimum_confidence src.width src.height (picture_sums src)
 
 -- 11 and 12, of the length answer
-abbrev pub measured_conditions : ℕ → ℕ → LineLength → List Refusal
+abbrev pub measured_conditions : ℕ → ℕ → Option Float → List Refusal
 measured_conditions width height l =
-    given 11 (l ≡ Nothing) ∷ given 12 (TooLong (max_blur_length width height) l) ∷ []
+    given 11 (l ≡ None) ∷ given 12 (TooLong (max_blur_length width height) l) ∷ []
 
 -- a length that the restoration takes: `plan_length` accepts exactly there
-pub record LengthFits (width height : ℕ) (l : LineLength) : Type 0 where
-  pub found : l ≡ Nothing → ⊥
+pub record LengthFits (width height : ℕ) (l : Option Float) : Type 0 where
+  pub found : l ≡ None → ⊥
   pub fits : TooLong (max_blur_length width height) l → ⊥
 
 abbrev pub lent_conditions : ℕ → ℕ → ℕ → ℕ → List Refusal

@@ -10,12 +10,13 @@
 -- document 01's definitions." The contract of each call fixes its answer, and what it writes, by definitions:
 -- docs/SPEC.md, "Contracts", lists the calls with their contracts and the theorems that these determine all.
 -- Demand 3 is `Demand3`, at the end. Both are proved in proofs/Demands.antt.
-use Rattle.std.specs.Prelude.{ℕ, ◌+◌, ◌*◌, ◌≤◌, ◌<◌, false, List, ◌≡◌, ℤ, pos, length, get_or}
+use Rattle.std.specs.Prelude.{ℕ, ◌+◌, ◌*◌, ◌≤◌, ◌<◌, false, List, ◌≡◌, ℤ, pos, length, get_or, Result, Ok}
 use Rattle.numbers.specs.Scalar.{clamp_byte}
 use Rattle.numbers.specs.Written.{pixels}
 use Rattle.floats.specs.Factor.{rounded_q16}
 use Rattle.image.specs.Call as call
-use Rattle.image.specs.Call.{Gray8}
+use Rattle.image.specs.Call.{Gray8, Decision, told}
+use Rattle.image.specs.declared.refusal.Refusal.{Refusal}
 use Rattle.image.specs.Picture.{pixel}
 use Rattle.raster.specs.Direction.{angle_of}
 use Rattle.swings.specs.declared.Swing.{Swing}
@@ -25,22 +26,19 @@ use Rattle.deblur.specs.Refusal.{scratch_needed}
 use Rattle.deblur.specs.Settings.{LineFilter, restoration_of}
 use Rattle.deblur.specs.declared.VanCittertConfig.{VanCittertConfig}
 use Rattle.deblur.specs.declared.RestorationMetadata.{RestorationMetadata}
-use Rattle.deblur.specs.declared.RestorationAnswer.TheVariants as restoration
 use Rattle.job.specs.declared.JobConfig.{JobConfig}
 use Rattle.job.specs.declared.JobResult.{JobResult}
-use Rattle.job.specs.declared.JobAnswer.{JobAnswer}
-use Rattle.job.specs.declared.JobAnswer.TheVariants.{Done, Refused}
 use Rattle.job.specs.Job.{Job, job_of, layout_of, Restored}
 use Rattle.job.specs.ExactJob.{exact_answer, exact_after}
 
--- ---- demand 1, of the whole job
+-- ---- demand 1, of the whole job, over the decision that its answer shows
 
 pub record Demand_1_of (j : Job) (old new : List ℕ) (scratch scratch' : List ℤ) (swings swings' : List Swing)
-    (answer : JobAnswer) : Type 0 where
+    (answer : Decision JobResult) : Type 0 where
   -- "no refusal changes a destination"
-  pub refused_dst : (number : ℕ) → answer ≡ Refused number → new ≡ old
+  pub refused_dst : (number : ℕ) → answer ≡ call.refuses number → new ≡ old
   -- document 01: "A refusal .. changes neither destination nor scratch, except that 11 and 12 leave scratch free."
-  pub refused_scratch : (number : ℕ) → answer ≡ Refused number → (number ≡ 11 → ⊥) → (number ≡ 12 → ⊥)
+  pub refused_scratch : (number : ℕ) → answer ≡ call.refuses number → (number ≡ 11 → ⊥) → (number ≡ 12 → ⊥)
       → (scratch' ≡ scratch) × (swings' ≡ swings)
   -- "Nothing but the scratch and the destination's pixels .. is ever written"
   pub same_length : length new ≡ length old
@@ -50,9 +48,9 @@ pub record Demand_1_of (j : Job) (old new : List ℕ) (scratch scratch' : List �
 abbrev pub Demand1 : Type 0
 Demand1 =
     (src dst : Gray8) (new : List ℕ) (config : JobConfig) (scratch scratch' : List ℤ) (swings swings' : List Swing)
-    (answer : JobAnswer) → Restored src dst new config scratch scratch' swings swings' answer
+    (answer : Result JobResult Refusal) → Restored src dst new config scratch scratch' swings swings' answer
     → Demand_1_of (job_of src (layout_of dst) config (length scratch) (length swings)) dst.bytes new scratch scratch'
-    swings swings' answer
+    swings swings' (told answer)
 
 -- ---- "Demand 3's estimate after k is Yk for the same source, relaxation and border: what an accepted estimate call
 -- for k iterations writes at that length and an angle that snaps to that direction (0, 0.75, 1.5 or 2.25)."
@@ -78,7 +76,7 @@ pub record EstimateCall (j : Job) (result : JobResult) (k : ℕ) (estimates : Li
   pub metadata : RestorationMetadata
   pub outcome :
       EstimateWritten j.source old estimates (estimate_filter j.config result k) scratch scratch'
-      (restoration.Done metadata)
+      (Ok metadata)
 
 -- the estimate at the pixel (c, r), row by row
 abbrev pub estimate_at : Job → List ℤ → ℕ → ℕ → ℤ
@@ -89,7 +87,7 @@ estimate_at j estimates c r = get_or estimates (r * j.source.width + c) (pos 0)
 pub record Demand_3_accepted (j : Job) (new : List ℕ) (result : JobResult) : Type 0 where
   -- "When accepted, both have the same direction and the same blur length."
   pub exact_result : JobResult
-  pub exact_accepts : exact_answer j ≡ Done exact_result
+  pub exact_accepts : exact_answer j ≡ call.accepts exact_result
   pub same_direction : exact_result.direction ≡ result.direction
   pub same_length : exact_result.blur_length ≡ result.blur_length
   -- for every k from 1 to the stated iterations there is such an estimate call: it is accepted, along that direction,
@@ -114,16 +112,16 @@ pub record Demand_3_accepted (j : Job) (new : List ℕ) (result : JobResult) : T
       → Near (rounded_q16 j.config.relaxation) j.config.iterations (pos (pixel new j.destination.stride c r))
       (cut (exact_after j exact_result j.config.iterations c r))
 
-pub record Demand_3_of (j : Job) (new : List ℕ) (answer : JobAnswer) : Type 0 where
+pub record Demand_3_of (j : Job) (new : List ℕ) (answer : Decision JobResult) : Type 0 where
   -- ".. the whole-job call refuses exactly when the exact run in fractions does, and with the same number."
-  pub refuses : (number : ℕ) → answer ≡ Refused number → exact_answer j ≡ Refused number
-  pub refuses_too : (number : ℕ) → exact_answer j ≡ Refused number → answer ≡ Refused number
-  pub accepts : (result : JobResult) → answer ≡ Done result → Demand_3_accepted j new result
+  pub refuses : (number : ℕ) → answer ≡ call.refuses number → exact_answer j ≡ call.refuses number
+  pub refuses_too : (number : ℕ) → exact_answer j ≡ call.refuses number → answer ≡ call.refuses number
+  pub accepts : (result : JobResult) → answer ≡ call.accepts result → Demand_3_accepted j new result
 
 -- "For every picture and its layout, settings, destination layout and scratch lengths": of whatever the whole-job call
 -- answers and leaves, by its contract.
 abbrev pub Demand3 : Type 0
 Demand3 =
     (src dst : Gray8) (new : List ℕ) (config : JobConfig) (scratch scratch' : List ℤ) (swings swings' : List Swing)
-    (answer : JobAnswer) → Restored src dst new config scratch scratch' swings swings' answer
-    → Demand_3_of (job_of src (layout_of dst) config (length scratch) (length swings)) new answer
+    (answer : Result JobResult Refusal) → Restored src dst new config scratch scratch' swings swings' answer
+    → Demand_3_of (job_of src (layout_of dst) config (length scratch) (length swings)) new (told answer)

@@ -3,16 +3,16 @@
 -- 02, K6: "The exact run obeys the same floor."
 use Rattle.std.specs.Prelude.{ℕ}
 use Rattle.floats.specs.Factor.{rounded_q16}
+use Rattle.image.specs.Call.{Decision}
 use Rattle.image.specs.Picture.{pixel}
 use Rattle.line.specs.Exact.{Fraction}
 use Rattle.job.specs.declared.JobResult.{JobResult}
-use Rattle.job.specs.declared.JobAnswer.{JobAnswer}
 use Rattle.job.specs.Exact.{exact_value}
-use Rattle.job.specs.Job.{Job, plan, job_answer}
+use Rattle.job.specs.Job.{Job, plan}
 
 -- what it answers
-abbrev pub exact_answer : Job → JobAnswer
-exact_answer j = job_answer (plan j)
+abbrev pub exact_answer : Job → Decision JobResult
+exact_answer j = plan j
 
 -- "The exact value after k is Nk / S^k", at the pixel (c, r), of a run with the direction and the blur length of
 -- `result`

@@ -1,23 +1,21 @@
 -- The whole job (document 01, "Whole job and exact run"): "Direction from the picture, then length along it, rounded to
 -- the smallest odd whole number that is at least 3 and at least the estimate, then restoration." `plan` is what a job
 -- comes to; `Restored` is the contract's fact.
-use Rattle.std.specs.Prelude.{ℕ, ◌*◌, ◌≤◌, Bool, true, cond, ◌||◌, List, ◌≡◌, ltb, ℤ, Float, length}
+use Rattle.std.specs.Prelude.{ℕ, ◌*◌, ◌≤◌, Bool, true, cond, ◌||◌, List, ◌≡◌, ltb, ℤ, Float, length, Option, Some, None, Result}
 use Rattle.numbers.specs.Scalar.{clamp_byte}
 use Rattle.numbers.specs.Written.{Painted}
 use Rattle.floats.specs.Factor.{max_relaxation, within, rounded_q16}
 use Rattle.floats.specs.Odd.{odd_length}
-use Rattle.floats.specs.declared.OddLength.{OddLength}
-use Rattle.floats.specs.declared.OddLength.TheVariants.{Length, Beyond}
-use Rattle.image.specs.Call.{Gray8, Decision, accepts, refuses, unless, Outcome}
+use Rattle.image.specs.Call.{Gray8, Decision, accepts, refuses, unless, told, same, Outcome}
 use Rattle.image.specs.Picture.{pixel}
+use Rattle.image.specs.declared.layout.Layout.{Layout}
+use Rattle.image.specs.declared.refusal.Refusal.{Refusal}
 use Rattle.image.specs.Refusal.{first_refusal, pair_refusal, LaidPair}
 use Rattle.raster.specs.declared.border.LineBorderMode.TheVariants.{Replicate}
 use Rattle.raster.specs.declared.direction.RasterDirection4.{RasterDirection4}
-use Rattle.blur.specs.Length.{defaults, length_along}
+use Rattle.blur.specs.Length.{defaults, thresholds, length_along}
 use Rattle.tensor.specs.Confidence.{confidence_refusal}
 use Rattle.tensor.specs.Tensor.{picture_sums, estimate_of}
-use Rattle.blur.specs.declared.length.LineLength.{LineLength}
-use Rattle.blur.specs.declared.length.LineLength.TheVariants.{Found, Nothing}
 use Rattle.swings.specs.declared.Swing.{Swing}
 use Rattle.line.specs.declared.kernel.LineKernel.{LineKernel}
 use Rattle.line.specs.Kernel.{max_blur_length}
@@ -32,16 +30,8 @@ use Rattle.deblur.specs.Refusal.{
 use Rattle.deblur.specs.Settings.{default_iterations, default_relaxation, line_kernel}
 use Rattle.job.specs.declared.JobConfig.{JobConfig}
 use Rattle.job.specs.declared.JobResult.{JobResult}
-use Rattle.job.specs.declared.JobAnswer.{JobAnswer}
-use Rattle.job.specs.declared.JobAnswer.TheVariants.{Done, Refused}
 
 -- how a picture lies in a slice of so many bytes
-pub record Layout : Type 0 where
-  pub len : ℕ
-  pub width : ℕ
-  pub height : ℕ
-  pub stride : ℕ
-
 abbrev pub layout : ℕ → ℕ → ℕ → ℕ → Layout
 layout len width height stride = record { len = len; width = width; height = height; stride = stride }
 
@@ -109,37 +99,27 @@ picture_direction src = (estimate_of src.width src.height (picture_sums src)).di
 
 -- ".. rounded to the smallest odd whole number that is at least 3 and at least the estimate"; 12 it exceeds
 -- 2 × max(width, height) + 1
-abbrev pub plan_odd : ℕ → ℕ → RasterDirection4 → Float → OddLength → Decision JobResult
-plan_odd width height d estimate (Length L) =
+abbrev pub plan_odd : ℕ → ℕ → RasterDirection4 → Float → Option ℕ → Decision JobResult
+plan_odd width height d estimate (Some L) =
     cond (ltb (max_blur_length width height) L) (refuses 12)
     (accepts (record { direction = d; blur_length = L; estimate = estimate }))
-plan_odd width height d estimate Beyond = refuses 12
+plan_odd width height d estimate None = refuses 12
 
--- 11 the length answer is Nothing
-abbrev pub plan_length : ℕ → ℕ → RasterDirection4 → LineLength → Decision JobResult
-plan_length width height d (Found estimate) = plan_odd width height d estimate (odd_length estimate)
-plan_length width height d Nothing = refuses 11
+-- 11 the length answer is Nothing, which is `None`
+abbrev pub plan_length : ℕ → ℕ → RasterDirection4 → Option Float → Decision JobResult
+plan_length width height d (Some estimate) = plan_odd width height d estimate (odd_length estimate)
+plan_length width height d None = refuses 11
 
 abbrev pub job_direction : Job → RasterDirection4
 job_direction j = picture_direction j.source
 
 -- "then length along it"
-abbrev pub job_length : Job → LineLength
+abbrev pub job_length : Job → Option Float
 job_length j =
-    length_along j.source.bytes j.source.width j.source.height j.source.stride (job_direction j)
-    j.config.minimum_transitions j.config.minimum_amplitude
+    length_along j.source (job_direction j) (thresholds j.config.minimum_transitions j.config.minimum_amplitude)
 
 unfoldable pub plan : Job → Decision JobResult
 plan j = unless (start_refusal j) (plan_length j.source.width j.source.height (job_direction j) (job_length j))
-
-abbrev pub job_answer : Decision JobResult → JobAnswer
-job_answer (accepts result) = Done result
-job_answer (refuses number) = Refused number
-
--- an answer's decision
-abbrev pub job_decided : JobAnswer → Decision JobResult
-job_decided (Done result) = accepts result
-job_decided (Refused number) = refuses number
 
 -- ---- the restoration
 
@@ -161,11 +141,11 @@ JobWrites src dst_stride config result old new =
 
 -- what a job answers and leaves; both kinds of scratch go together
 abbrev pub Restored : Gray8 → Gray8 → List ℕ → JobConfig → List ℤ → List ℤ → List Swing
-    → List Swing → JobAnswer → Type 0
+    → List Swing → Result JobResult Refusal → Type 0
 Restored src dst new config scratch scratch' swings swings' answer =
     Outcome {S = List ℤ × List Swing} (plan (job_of src (layout_of dst) config (length scratch) (length swings)))
-    job_answer
-    (JobWrites src dst.stride config) dst.bytes new (scratch, swings) (scratch', swings') answer
+    same
+    (JobWrites src dst.stride config) dst.bytes new (scratch, swings) (scratch', swings') (told answer)
 
 -- ---- accepted jobs
 

@@ -1,53 +1,32 @@
-// The end of a job: its answer, and the restoration of one that is accepted.
+// The end of a job that is accepted: its restoration.
 ghost use Rattle.std.specs.Prelude.{length};
-ghost use Rattle.image.specs.Call.{gray8};
-ghost use Rattle.job.specs.Job.{layout, Runnable};
-ghost use Rattle.job.specs.Parts.{length_in, Finished};
+ghost use Rattle.image.specs.View.{seen};
+ghost use Rattle.deblur.specs.Refusal.{LengthTaken};
+ghost use Rattle.job.specs.Job.{layout, JobWrites, Runnable};
 
-use crate::plan::plan_job;
-use crate::{JobAnswer, JobConfig};
-use blur::length::LengthAnswer;
+use crate::{JobConfig, JobResult};
 use deblur::kernel::{line_kernel, restore_along};
-use raster::direction::RasterDirection4;
+use image::Gray8View;
 
-// The answer that direction and length give, and the destination painted where it is accepted.
-pub(crate) fn finish(
-    data: &[u8],
-    width: usize,
-    height: usize,
-    stride: usize,
+// The last estimates, cut to 0..255, in the destination's pixels. Of it bytes and stride: its sides are the source's.
+pub(crate) fn finish<'a>(
+    src: Gray8View<'a>,
     dst: &mut [u8],
-    dst_width: usize,
-    dst_height: usize,
     dst_stride: usize,
     config: JobConfig,
-    direction: RasterDirection4,
-    measured: LengthAnswer,
+    plan: JobResult,
     scratch: &mut [i32],
-) -> JobAnswer
-    requires { Runnable (gray8 «data».now width height stride)
-        (layout (length dst.old) dst_width dst_height dst_stride) config (length scratch.old) }
-    ensures { Finished direction (length_in measured)
-        (gray8 «data».now width height stride)
-        (gray8 dst.old dst_width dst_height dst_stride) dst.new config scratch.old
-        scratch.new result }
+)
+    requires runnable { Runnable (seen src) (layout (length dst.old) src.width src.height dst_stride) config
+        (length scratch.old) }
+    requires taken { LengthTaken src.width src.height plan.blur_length }
+    ensures { JobWrites (seen src.entry) dst_stride config plan dst.old dst.new }
 {
-    let answer = plan_job(direction, width, height, measured);
-    match answer {
-        JobAnswer::Done(result) => {
-            let along = result.direction;
-            let border = config.border;
-            let kernel = line_kernel(
-                result.blur_length,
-                config.relaxation,
-                config.iterations,
-                border,
-            );
-            restore_along(
-                data, width, height, stride, dst, dst_stride, along, kernel, scratch,
-            );
-            JobAnswer::Done(result)
-        }
-        JobAnswer::Refused(number) => JobAnswer::Refused(number),
-    }
+    let kernel = line_kernel(
+        plan.blur_length,
+        config.relaxation,
+        config.iterations,
+        config.border,
+    );
+    restore_along(src, dst, dst_stride, plan.direction, kernel, scratch);
 }

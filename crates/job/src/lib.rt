@@ -2,13 +2,15 @@
 #![tactic(auto)]
 
 ghost use Rattle.std.specs.Prelude.{◌≡◌};
-ghost use Rattle.image.specs.Call.{gray8};
+ghost use Rattle.image.specs.View.{seen, lent};
+ghost use Rattle.blur.specs.Length.{thresholds};
 ghost use Rattle.job.specs.Job.{job_default, Restored};
 
 use crate::finish::finish;
-use crate::plan::{refused, start_job};
+use crate::plan::{plan_job, start_job};
 use blur::length::{LineLengthConfig, estimate_along};
 use deblur::VanCittertConfig;
+use image::{Gray8View, Gray8ViewMut, Refusal};
 use raster::border::LineBorderMode;
 use raster::direction::RasterDirection4;
 use swings::Swing;
@@ -18,7 +20,7 @@ mod plan;
 
 // Settings of the whole job: thresholds of the length and the direction, and those of the restoration that are not
 // measured.
-#[derive(Clone, Copy)]
+#[derive(Clone, Copy, Debug, PartialEq)]
 pub struct JobConfig {
     // How many swings there must be.
     pub minimum_transitions: usize,
@@ -33,7 +35,7 @@ pub struct JobConfig {
 }
 
 // What was measured, and used.
-#[derive(Clone, Copy)]
+#[derive(Clone, Copy, Debug, PartialEq)]
 pub struct JobResult {
     pub direction: RasterDirection4,
     // The odd length in pixels that the estimate was raised to.
@@ -41,17 +43,10 @@ pub struct JobResult {
     pub estimate: f64,
 }
 
-#[derive(Clone, Copy)]
-pub enum JobAnswer {
-    Done(JobResult),
-    // The number of the refusal.
-    Refused(u8),
-}
+impl Default for JobConfig {
+    ghost is_default = { λ config. config ≡ job_default };
 
-impl JobConfig {
-    pub fn default() -> Self
-        ensures { result ≡ job_default }
-    {
+    fn default() -> JobConfig {
         JobConfig {
             minimum_transitions: LineLengthConfig::MINIMUM_TRANSITIONS,
             minimum_amplitude: LineLengthConfig::MINIMUM_AMPLITUDE,
@@ -63,64 +58,34 @@ impl JobConfig {
     }
 }
 
+impl JobConfig {
+    // Those of the length.
+    fn thresholds(self) -> LineLengthConfig
+        ensures { result ≡ thresholds self.minimum_transitions self.minimum_amplitude }
+    {
+        LineLengthConfig {
+            minimum_transitions: self.minimum_transitions,
+            minimum_amplitude: self.minimum_amplitude,
+        }
+    }
+}
+
 // The source's restoration along the direction and over the length that were measured in it, cut to 0..255, in the
-// destination's pixels.
-pub fn restore(
-    data: &[u8],
-    width: usize,
-    height: usize,
-    stride: usize,
-    dst: &mut [u8],
-    dst_width: usize,
-    dst_height: usize,
-    dst_stride: usize,
+// destination's pixels. Refusals 1 to 6, 8 to 12 and 17.
+pub fn restore<'a, 'b>(
+    src: Gray8View<'a>,
+    dst: Gray8ViewMut<'b>,
     config: JobConfig,
     scratch: &mut [i32],
     swings: &mut [Swing],
-) -> JobAnswer
-    ensures { Restored (gray8 «data».now width height stride)
-        (gray8 dst.old dst_width dst_height dst_stride)
-        dst.new config scratch.old scratch.new swings.old
+) -> Result<JobResult, Refusal>
+    ensures { Restored (seen src.entry) (lent dst.entry) dst.exit.0.now config scratch.old scratch.new swings.old
         swings.new result }
 {
-    let start = start_job(
-        data,
-        width,
-        height,
-        stride,
-        dst.len(),
-        dst_width,
-        dst_height,
-        dst_stride,
-        config,
-        scratch.len(),
-        swings.len(),
-    );
-    if start.refusal != 0 {
-        return refused(start.refusal);
-    }
-    let measured = estimate_along(
-        data,
-        width,
-        height,
-        stride,
-        start.direction,
-        config.minimum_transitions,
-        config.minimum_amplitude,
-        swings,
-    );
-    finish(
-        data,
-        width,
-        height,
-        stride,
-        dst,
-        dst_width,
-        dst_height,
-        dst_stride,
-        config,
-        start.direction,
-        measured,
-        scratch,
-    )
+    let direction = start_job(src, dst.layout(), config, scratch.len(), swings.len())?;
+    let measured = estimate_along(src, direction, config.thresholds(), swings)?;
+    let result = plan_job(src.width, src.height, direction, measured)?;
+    let Gray8ViewMut { data, stride, .. } = dst;
+    finish(src, data, stride, config, result, scratch);
+    Ok(result)
 }

@@ -21,7 +21,7 @@ use Rattle.line.specs.declared.mean.MeanSettings.{MeanSettings}
 use Rattle.line.specs.Line.{sample, mean}
 use Rattle.line.specs.Kernel.{line_at, largest, MeanAsked, map_of, window_at, sample_at, opening, MeansWritten}
 use Rattle.line.proofs.IterationLaws.{mean_is, mean_same}
-use Rattle.line.proofs.LineLaws.{sample_at_lem, window_is, window_slide}
+use Rattle.line.proofs.LineLaws.{window_is, window_slide}
 use Rattle.line.proofs.LineWindow.{lawful_of_line, sample_same, sample_within, window_reads, line_window}
 use Rattle.line.proofs.KernelSum.{largest_byte, largest_most}
 
@@ -64,13 +64,6 @@ module _ (s : MeanSettings) {old : List ℤ} (A : MeanAsked s old) where
 
     pub sample_kept : (p : ℤ) → sample (map_of s) (line_at s.n new) p ≡ sample (map_of s) (line_at s.n old) p
     sample_kept p = sample_same (lawful_of_line lawful) (line_at s.n new) (line_at s.n old) line_kept p
-
-    -- a place u − L/2 of the line
-    pub sample_on : (u : ℕ) → s.blur_length / 2 ≤ u → u < s.blur_length / 2 + s.n
-        → line_at s.n new (u - s.blur_length / 2) ≡ sample_at s old u
-    sample_on u h k =
-        line_kept (u - s.blur_length / 2) (omega arith)
-        ∙ sym (sample_at_lem lawful (line_at s.n old) u (s.blur_length / 2) h k)
 
     pub window_kept : (p : ℕ) → window_at s new p ≡ window_at s old p
     window_kept =

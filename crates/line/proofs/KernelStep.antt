@@ -40,17 +40,11 @@ module _ {y b m : ℤ} {q : ℕ} (fy : SFits w32 y) (fb : SFits w32 b) (fm : SFi
   whole-size : SFits w32 (b -ℤ m)
   whole-size = sfits_sub b m (omega (arith, S.byte, S.small))
 
-  pub whole_subs : SFits w32 (to_z w32 (of_z w32 b) -ℤ to_z w32 (of_z w32 m))
-  whole_subs = fits_as whole-residual whole-size
-
   whole_sum : whole_in b m y ≡ step_from q b m y
   whole_sum =
       ap₂ ◌+ℤ◌ (to_z-of_z fy) (held whole-residual whole-size)
       ∙ sym (step_whole b m y)
       ∙ ap (λ (k : ℕ). step_from k b m y) (sym one)
-
-  pub whole_adds : SFits w32 (whole_in b m y)
-  whole_adds = fits_as whole_sum (sfits_size S.fits)
 
   pub whole_is : to_z w32 (of_z w32 (whole_in b m y)) ≡ step_from q b m y
   whole_is = held {w = w32} whole_sum (sfits_size S.fits)
@@ -71,9 +65,6 @@ module _ {xb xm xy b m y : ℤ} {q : ℕ} (S : SampleStepAsked y b m q) (eb : xb
   residual-fits : SFits w64 (b -ℤ m)
   residual-fits = sfits_size (omega (arith, residual-size))
 
-  pub cut_subs : SFits w64 (xb -ℤ xm)
-  cut_subs = fits_as residual residual-fits
-
   product : to_z w64 (of_z w64 (xb -ℤ xm)) *ℤ to_z w64 q ≡ (b -ℤ m) *ℤ pos q
   product = ap₂ ◌*ℤ◌ (held residual residual-fits) (to_z_pos w64 (omega (arith, S.gain)))
 
@@ -89,9 +80,6 @@ module _ {xb xm xy b m y : ℤ} {q : ℕ} (S : SampleStepAsked y b m q) (eb : xb
   quotient_fits : SFits w64 (quot_z ((b -ℤ m) *ℤ pos q) (pos scale))
   quotient_fits = sfits_quot (pos-≤ℤ (omega arith)) product_fits
 
-  pub cut_divides : (0 < scale) × SFits w64 (quotient_in q xb xm)
-  cut_divides = (omega arith, fits_as quotient quotient_fits)
-
   sum : xy +ℤ to_z w64 (of_z w64 (quotient_in q xb xm)) ≡ step_from q b m y
   sum = ap₂ ◌+ℤ◌ ey (held quotient quotient_fits)
 
@@ -103,6 +91,13 @@ module _ {xb xm xy b m y : ℤ} {q : ℕ} (S : SampleStepAsked y b m q) (eb : xb
 
   pub cut_is : to_z w64 (of_z w64 (xy +ℤ to_z w64 (of_z w64 (quotient_in q xb xm)))) ≡ step_from q b m y
   cut_is = held sum sum_fits
+
+  pub cut_narrows : SFits w32 (to_z w64 (of_z w64 (xy +ℤ to_z w64 (of_z w64 (quotient_in q xb xm)))))
+  cut_narrows = fits_as {w = w32} cut_is (sfits_size S.fits)
+
+  pub cut_narrow : to_z w32 (of_z w32 (to_z w64 (of_z w64 (xy +ℤ to_z w64 (of_z w64 (quotient_in q xb xm))))))
+      ≡ step_from q b m y
+  cut_narrow = held {w = w32} cut_is (sfits_size S.fits)
 
 -- ---- along a line
 

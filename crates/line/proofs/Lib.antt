@@ -10,7 +10,6 @@ pub mod BorderShape
 pub mod Wrap
 pub mod Examples
 pub mod KernelFirst
-pub mod KernelGather
 pub mod KernelMean
 pub mod KernelIteration
 pub mod KernelStep

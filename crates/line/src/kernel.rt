@@ -3,17 +3,24 @@ ghost use Rattle.std.specs.Prelude.{◌+◌, length};
 ghost use Rattle.line.specs.Kernel.{LineAsked, KernelAsked, bytes_on, line_at, LineRestored};
 ghost use Rattle.line.specs.Kernel.{Gathered, Iterated, IterationAsked};
 
-use crate::mean::{MeanSettings, line_mean, reciprocal_of};
+use crate::mean::{MeanSettings, reciprocal_of};
 use crate::step::line_step;
-use numbers::widen_u8;
 use raster::border::LineBorderMode;
 
+// Where a line lies in a slice: its first place, how far apart its places are, and how many they are.
+#[derive(Clone, Copy, Debug, PartialEq, Eq)]
+pub struct LinePlaces {
+    pub start: usize,
+    pub step: usize,
+    pub len: usize,
+}
+
 // What a line filter does to each line.
-#[derive(Clone, Copy)]
+#[derive(Clone, Copy, Debug, PartialEq, Eq)]
 pub struct LineKernel {
     // Up to twice the longest side and 1.
     pub blur_length: usize,
-    // The factor times Quantized::SCALE.
+    // The factor times floats::SCALE.
     pub q: u32,
     // Up to MAX_ITERATIONS.
     pub iterations: usize,
@@ -25,16 +32,14 @@ impl LineKernel {
 }
 
 // The bytes of a line into the first and the second part of the scratch: the observed samples, and the first estimate.
-pub fn gather(data: &[u8], start: usize, step: usize, n: usize, scratch: &mut [i32])
-    requires { LineAsked (length «data».now) start step n (length scratch.old) }
-    ensures { Gathered (bytes_on «data».now start step) n scratch.new }
+pub fn gather(data: &[u8], places: LinePlaces, scratch: &mut [i32])
+    requires { LineAsked (length «data».now) places.start places.step places.len (length scratch.old) }
+    ensures { Gathered (bytes_on «data».now places.start places.step) places.len scratch.new }
 {
-    let mut i = 0;
-    while i < n {
-        let v = widen_u8(data[start + i * step]);
+    for i in 0..places.len {
+        let v = i32::from(data[places.start + i * places.step]);
         scratch[i] = v;
-        scratch[n + i] = v;
-        i += 1;
+        scratch[places.len + i] = v;
     }
 }
 
@@ -43,36 +48,24 @@ pub fn iterate_line(n: usize, kernel: LineKernel, k: usize, scratch: &mut [i32])
     requires { IterationAsked kernel n k scratch.old }
     ensures { Iterated kernel n (line_at 0 scratch.old) (k + 1) scratch.new }
 {
-    let border = kernel.border;
-    let reciprocal = reciprocal_of(kernel.blur_length, k);
-    line_mean(
-        scratch,
-        MeanSettings {
-            n: n,
-            blur_length: kernel.blur_length,
-            reciprocal: reciprocal,
-            border: border,
-        },
-    );
+    let settings = MeanSettings {
+        n,
+        blur_length: kernel.blur_length,
+        reciprocal: reciprocal_of(kernel.blur_length, k),
+        border: kernel.border,
+    };
+    settings.line_mean(scratch);
     line_step(scratch, n, kernel.q);
 }
 
 // The line's last estimate into the second part.
-pub fn restore_line(
-    data: &[u8],
-    start: usize,
-    step: usize,
-    n: usize,
-    kernel: LineKernel,
-    scratch: &mut [i32],
-)
-    requires { LineAsked (length «data».now) start step n (length scratch.old) × KernelAsked kernel }
-    ensures { LineRestored «data».now start step n kernel scratch.new }
+pub fn restore_line(data: &[u8], places: LinePlaces, kernel: LineKernel, scratch: &mut [i32])
+    requires asked { LineAsked (length «data».now) places.start places.step places.len (length scratch.old) }
+    requires taken { KernelAsked kernel }
+    ensures { LineRestored «data».now places.start places.step places.len kernel scratch.new }
 {
-    gather(data, start, step, n, scratch);
-    let mut k = 0;
-    while k < kernel.iterations {
-        iterate_line(n, kernel, k, scratch);
-        k += 1;
+    gather(data, places, scratch);
+    for k in 0..kernel.iterations {
+        iterate_line(places.len, kernel, k, scratch);
     }
 }

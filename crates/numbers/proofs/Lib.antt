@@ -1,4 +1,5 @@
 -- The laws that the other crates' proofs cite, by subject.
+pub mod Each
 pub mod Int
 pub mod List
 pub mod Nat
@@ -6,5 +7,4 @@ pub mod Places
 pub mod Scalar
 pub mod Sum
 pub mod Test
-pub mod Words
 pub mod Written

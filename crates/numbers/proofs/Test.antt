@@ -98,16 +98,6 @@ module _ {ℓ κ} {A : Type ℓ} {B : Type κ} where
 
 -- ---- `cond`
 
-pub cond_true {ℓ} : {A : Type ℓ} {b : Bool} (x y : A) → b ≡ true → cond b x y ≡ x
-cond_true x y e = rw e
-
-pub cond_false {ℓ} : {A : Type ℓ} {b : Bool} (x y : A) → b ≡ false → cond b x y ≡ y
-cond_false x y e = rw e
-
-pub cond_same {ℓ} : {A : Type ℓ} (b : Bool) (x : A) → cond b x x ≡ x
-cond_same true x = refl
-cond_same false x = refl
-
 -- what holds of both holds of the choice
 pub cond_both {ℓ κ} : {A : Type ℓ} (P : A → Type κ) (b : Bool) (x y : A) → P x → P y → P (cond b x y)
 cond_both P true x y h k = h

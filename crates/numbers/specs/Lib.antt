@@ -1,5 +1,4 @@
 -- What the contracts of `numbers` cite.
 pub mod Scalar
 pub mod Sum
-pub mod Words
 pub mod Written

@@ -11,7 +11,7 @@ use lib.ListN.{length, length-append}
 use Rattle.image.specs.Call.{accepts}
 use Rattle.image.specs.Refusal.{sides_refusal}
 use Rattle.image.proofs.Chain.{first_zero, cond_holds, cond_left}
-use Rattle.image.proofs.Refusal.{sides_0, sides_some, sides_few}
+use Rattle.image.proofs.Accepted.{sides_0, sides_some, sides_few}
 use Rattle.pgm.specs.Form.{Header, header_bytes, Formed, Holds}
 use Rattle.pgm.specs.Read.{picture_refusal, picture_in, read_decision}
 use Rattle.pgm.specs.declared.PgmPicture.{PgmPicture}

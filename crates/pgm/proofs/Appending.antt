@@ -27,13 +27,6 @@ module _ (n at e : ℕ) (old ys : List ℕ) (is : e ≡ at + digit_count n) (bel
       length-append (take at old) ys
       ∙ rw (length-take-le at old (omega arith), ys-are, length_digits (digit_count n) n) (sym is)
 
-  pub still_below : e < length (take at old ++ (ys ++ drop (e - at) (drop at old)))
-  still_below =
-      let a = ap length (append_assoc (take at old) ys (drop (e - at) (drop at old))) in
-      let b = length-append (take at old ++ ys) (drop (e - at) (drop at old)) in
-      let c = ap length behind-digits in
-      omega (arith, a, b, c, here)
-
   pub line_put : Appended (number_line n) at old (set (take at old ++ (ys ++ drop (e - at) (drop at old))) e 10) (e + 1)
   line_put =
       record {

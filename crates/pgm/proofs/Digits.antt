@@ -3,12 +3,12 @@ use Prim.Native.Nat.{ℕ, zero, suc, ◌+◌, ◌-◌, ◌/◌, ◌%◌, ◌≤�
 use native.Mathlib.Nat.{mod-lt}
 use native.Mathlib.Numerals.{add-one}
 use native.Mathlib.Omega.{arith}
-use mathlib.Core.List.{List, [], ◌∷◌, ◌++◌, append_assoc, append-nil}
+use mathlib.Core.List.{List, [], ◌∷◌, ◌++◌, append_assoc}
 use mathlib.Core.Path.{◌≡◌, refl, sym, ap, ◌∙◌}
 use borrow.Author.Tests.{lt-ltb, le-ltb}
 use lib.Dec.{ltb}
 use lib.ListN.{length, set, drop, length-append, length-set}
-use lib.Seq.{drop-cons, drop-length, drop-set-lt, get_or-set_same}
+use lib.Seq.{drop-cons, drop-set-lt, get_or-set_same}
 use Rattle.numbers.proofs.Test.{cond_both}
 use Rattle.pgm.specs.Write.{digits, digit_count, decimal, number_line, header_lines}
 
@@ -64,10 +64,6 @@ length_header w h =
 
 pub digit_small : (n : ℕ) → n % 10 < 10
 digit_small n = mod-lt n (omega arith)
-
--- nothing written yet
-pub digits_none : (out : List ℕ) (n : ℕ) → digits (length out) n ++ drop (length out) out ≡ digits (length out) n
-digits_none out n = rw (drop-length out) (append-nil (digits (length out) n))
 
 before : (out : List ℕ) (k v : ℕ) → k < length out → drop k (set out k v) ≡ v ∷ drop (suc k) out
 before out k v h =

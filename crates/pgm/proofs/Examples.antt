@@ -4,13 +4,14 @@ use mathlib.Core.List.{List, [], ◌∷◌, ◌++◌}
 use mathlib.Core.Path.{◌≡◌, refl, ap}
 use native.Mathlib.Omega.{arith}
 use lib.ListN.{get_or}
+use Rattle.std.proofs.Common.{Err}
 use Rattle.image.specs.Call.{Gray8, refuses, gray8}
 use Rattle.image.specs.Picture.{tabulate}
 use Rattle.image.specs.Refusal.{sides_refusal}
 use Rattle.pgm.specs.Form.{on_from}
 use Rattle.pgm.specs.Read.{pixels_part, read_decision}
 use Rattle.pgm.specs.Write.{digits, digit_count, header_lines, pgm_bytes, PgmWritten}
-use Rattle.pgm.specs.declared.WriteAnswer.TheVariants.{Refused}
+use Rattle.image.specs.declared.refusal.Refusal.TheVariants.{InvalidDestination}
 use Rattle.pgm.proofs.Writing.{refused_kept}
 
 -- `1 255 ` behind bytes that begin a file, and then pixels
@@ -51,7 +52,7 @@ unfolding digits digit_count tabulate
 tight = refl
 
 -- no program that has put a `P` before it gives 5 meets the contract, whatever the picture is: room for one byte
-header_first : (src : Gray8) → PgmWritten src (0 ∷ []) (80 ∷ []) (Refused 5) → ⊥
+header_first : (src : Gray8) → PgmWritten src (0 ∷ []) (80 ∷ []) (Err InvalidDestination) → ⊥
 header_first src o =
-    let e : ◌≡◌ {A = ℕ} 80 0 = ap (λ (xs : List ℕ). get_or xs 0 0) (refused_kept src o) in
+    let e : ◌≡◌ {A = ℕ} 80 0 = ap (λ (xs : List ℕ). get_or xs 0 0) (refused_kept src InvalidDestination o) in
     omega arith

@@ -1,4 +1,4 @@
--- What is read as a field, by places of the file.
+-- What is read as a field; and how long a file is, by a place of it (`behind_length`).
 use Prim.Native.Nat.{ℕ, ◌+◌, ◌-◌, ◌≤◌}
 use native.Mathlib.Omega.{arith}
 use mathlib.Core.Bool.{false}
@@ -7,12 +7,11 @@ use mathlib.Core.Path.{◌≡◌, refl, sym, ap, ◌∙◌}
 use borrow.Author.Tests.{eq-eqb, ne_eqb}
 use lib.ListN.{length, drop, length-append, length-drop}
 use Rattle.numbers.proofs.Test.{by_test}
-use Rattle.image.specs.Call.{Decision, accepts, refuses}
+use Rattle.std.proofs.Common.{None, Some}
+use Rattle.image.specs.Call.{accepts, refuses}
 use Rattle.pgm.specs.Form.{is_digit, value_of}
-use Rattle.pgm.specs.Read.{behind_gaps, digits_of, behind_digits, Read, read_field}
-use Rattle.pgm.specs.Places.{Behind, NumberAt, ReadAt, FieldAt}
-use Rattle.pgm.specs.declared.header.Field.{Field}
-use Rattle.pgm.specs.declared.header.Field.TheVariants as field
+use Rattle.pgm.specs.Read.{behind_gaps, digits_of, behind_digits, read_field}
+use Rattle.pgm.specs.Held.{cut, NumberOf, HeldNumber, HeldIf}
 use Rattle.pgm.specs.declared.header.Number.{Number}
 
 -- digits and what stands behind them are all
@@ -45,63 +44,46 @@ module _ (xs : List ℕ) where
     unfolding read_field
     a_field h = rw (ne_eqb (length ys) (length xs) some, ne_eqb (length (digits_of ys)) 0 h) refl
 
+-- ---- by the code's parts: what stands behind the gaps, and the number there
+
+module _ (xs : List ℕ) {ys : List ℕ} (e : ys ≡ behind_gaps false xs) where
+  pub field_no_gap : length ys ≡ length xs → HeldIf HeldNumber (read_field xs) None
+  field_no_gap h = rw (no_gap xs (ap length (sym e) ∙ h)) refl
+
+  module _ (some : length ys ≡ length xs → ⊥) {n : Number} (number : NumberOf ys n) where
+    moved : length (behind_gaps false xs) ≡ length xs → ⊥
+    moved k = some (ap length e ∙ k)
+
+    counted : length (digits_of ys) + length n.rest.now ≡ length ys
+    counted = ap (λ (m : ℕ). length (digits_of ys) + m) (ap length number.rest) ∙ digits_length ys
+
+    pub field_no_digit : length n.rest.now ≡ length ys → HeldIf HeldNumber (read_field xs) None
+    field_no_digit k =
+        let z : length (digits_of ys) ≡ 0 = omega (arith, counted) in
+        rw (no_digit xs moved (ap (λ (zs : List ℕ). length (digits_of zs)) (sym e) ∙ z)) refl
+
+    pub field_found : (length n.rest.now ≡ length ys → ⊥) → HeldIf HeldNumber (read_field xs) (Some n)
+    field_found h =
+        rw (a_field xs moved some_digit)
+        (record {
+          value = number.value ∙ ap (λ (zs : List ℕ). cut (value_of (digits_of zs))) e;
+          rest = number.rest ∙ ap behind_digits e;
+        })
+      where
+        some_digit : length (digits_of (behind_gaps false xs)) ≡ 0 → ⊥
+        some_digit z =
+            let k : length (digits_of ys) ≡ 0 = ap (λ (zs : List ℕ). length (digits_of zs)) e ∙ z in
+            h (omega (arith, counted))
+
 -- ---- by places
 
+-- a place of a file, and what stands from there on
+pub record Behind (file : List ℕ) (at : ℕ) (rest : List ℕ) : Type 0 where
+  pub within : at ≤ length file
+  pub dropped : drop at file ≡ rest
+
+-- the file is as long as what is before the place and what stands from there on
 pub behind_length : {file rest : List ℕ} {at : ℕ} → Behind file at rest → length file ≡ at + length rest
 behind_length {file} {rest} {at} b =
     let e : length rest ≡ length file - at = ap length (sym b.dropped) ∙ length-drop at file in
     omega (arith, b.within)
-
-module _ {file : List ℕ} {at start : ℕ} (within : at ≤ length file)
-    (gaps : Behind file start (behind_gaps false (drop at file))) where
-  here : length file ≡ at + length (drop at file)
-  here = behind_length (record { within = within; dropped = refl })
-
-  there : length file ≡ start + length (behind_gaps false (drop at file))
-  there = behind_length gaps
-
-  pub field_no_gap : start ≡ at → FieldAt file (read_field (drop at file)) field.Missing
-  field_no_gap e = rw (no_gap (drop at file) (omega (arith, here, there))) refl
-
-  module _ (some : start ≡ at → ⊥) {n : Number} (number : NumberAt file (drop start file) n) where
-    moved : length (behind_gaps false (drop at file)) ≡ length (drop at file) → ⊥
-    moved e = some (omega (arith, here, there))
-
-    number' : NumberAt file (behind_gaps false (drop at file)) n
-    number' = rw gaps.dropped at number
-
-    counted : start + length (digits_of (behind_gaps false (drop at file))) ≡ n.end
-    counted =
-        omega (
-          arith,
-          there,
-          digits_length (behind_gaps false (drop at file)),
-          behind_length number'.behind,
-        )
-
-    pub field_no_digit : n.end ≡ start → FieldAt file (read_field (drop at file)) field.Missing
-    field_no_digit e = rw (no_digit (drop at file) moved (omega (arith, counted))) refl
-
-    pub field_found : (n.end ≡ start → ⊥) → FieldAt file (read_field (drop at file)) (field.Number n)
-    field_found h =
-        rw (a_field (drop at file) moved (λ e. h (omega (arith, counted))))
-        (record { value = number'.value; behind = number'.behind })
-
--- ---- what an answer says was read, from a place behind which xs stand
-
-field_missing : (file : List ℕ) (d : Decision Read) → FieldAt file d field.Missing → d ≡ refuses 14
-field_missing file (accepts r) f = absurd f
-field_missing file (refuses k) f = ap refuses f
-
-field_number : (file : List ℕ) (d : Decision Read) (n : Number) → FieldAt file d (field.Number n)
-    → (r : Read) × ((d ≡ accepts r) × ReadAt file r n)
-field_number file (accepts r) n f = (r, (refl, f))
-field_number file (refuses k) n f = absurd f
-
-module _ {file : List ℕ} {at : ℕ} {xs : List ℕ} (here : Behind file at xs) {f : Field}
-    (found : FieldAt file (read_field (drop at file)) f) where
-  pub read_missing : f ≡ field.Missing → read_field xs ≡ refuses 14
-  read_missing e = field_missing file (read_field xs) (rw (here.dropped, e) at found)
-
-  pub read_number : {n : Number} → f ≡ field.Number n → (r : Read) × ((read_field xs ≡ accepts r) × ReadAt file r n)
-  read_number {n} e = field_number file (read_field xs) n (rw (here.dropped, e) at found)

@@ -1,32 +1,28 @@
--- What is read as a header, by places of the file; and what a header says of its file, with numbers that are cut.
-use Prim.Native.Nat.{ℕ, ◌+◌, ◌-◌, ◌*◌, ◌≤◌, ◌<◌}
+-- What is read as a header, field behind field; and what a header says of its file, with numbers that are cut.
+use Prim.Native.Nat.{ℕ, ◌-◌, ◌*◌, ◌≤◌, ◌<◌}
 use native.Mathlib.Omega.{arith}
-use mathlib.Core.Bool.{true, false}
+use mathlib.Core.Bool.{true, false, ◌&&◌, and-true}
+use Rattle.std.specs.Cmp.Lexicographic.{pointwise}
 use mathlib.Core.List.{List, [], ◌∷◌}
-use mathlib.Core.Path.{◌≡◌, refl, sym, ap, subst, ◌∙◌}
-use borrow.Author.Tests.{eqb-true, eq-eqb, eqb-false, ne_eqb, ltb-true, ltb-false, lt-ltb}
+use mathlib.Core.Path.{◌≡◌, refl, sym, ap, ◌∙◌}
+use borrow.Author.Tests.{eqb-true, eq-eqb, eqb-false, ltb-true, ltb-false, lt-ltb}
 use lib.Dec.{eqb, ltb}
-use lib.ListN.{length, take, drop, get_or, length-drop}
-use lib.Seq.{drop-drop, take_all}
+use lib.ListN.{length, take, drop}
 use Rattle.numbers.proofs.Test.{by_test, bool_ext, false_not_true, and_false_right}
+use Rattle.std.proofs.Common.{None, Some, Bor}
 use Rattle.image.specs.Call.{Decision, accepts, refuses, decided}
 use Rattle.image.specs.Refusal.{max_side, sides_refusal}
 use Rattle.image.proofs.Call.{then_accepts, decided_refuses, decided_accepts}
 use Rattle.image.proofs.Chain.{first_own}
-use Rattle.image.proofs.Refusal.{sides_few}
+use Rattle.image.proofs.Accepted.{sides_few}
 use Rattle.pgm.specs.Form.{is_white}
 use Rattle.pgm.specs.Read.{Read, HeaderRead, is_marked, read_field, read_last, read_header, picture_refusal, picture_in}
-use Rattle.pgm.specs.Read.{read_decision, read_answer, part_of, pixels_part}
-use Rattle.pgm.specs.Places.{Behind, ReadAt, cut, HeldAt, HeaderAt, last_answer, picture_answer}
+use Rattle.pgm.specs.Read.{read_decision}
+use Rattle.pgm.specs.Held.{cut, HeldNumber, HeldIf, HeldHeader, Shows, behind_white, picture_decision}
 use Rattle.pgm.specs.declared.PgmPicture.{PgmPicture}
-use Rattle.pgm.specs.declared.PgmAnswer.{PgmAnswer}
-use Rattle.pgm.specs.declared.PgmAnswer.TheVariants.{Picture, Refused}
 use Rattle.pgm.specs.declared.header.Header.{Header}
-use Rattle.pgm.specs.declared.header.HeaderAnswer.{HeaderAnswer}
-use Rattle.pgm.specs.declared.header.HeaderAnswer.TheVariants as answer
 use Rattle.pgm.specs.declared.header.Number.{Number}
-use Rattle.pgm.proofs.Reading.{next_byte, drop_end, cut_small, cut_is}
-use Rattle.pgm.proofs.Fields.{behind_length}
+use Rattle.pgm.proofs.Reading.{cut_small, cut_is}
 
 -- ---- the mark
 
@@ -41,67 +37,49 @@ marked_long file e =
     (λ t. absurd (false_not_true (sym (short_unmarked file (ltb-true _ 2 t))) e))
     (λ t. ltb-false _ 2 t)
 
--- ---- the white byte behind the maximum
-
-module _ (w h m : Number) (file : List ℕ) where
-  pub last_none : m.end ≤ length file → length file ≤ m.end
-      → answer.Broken ≡ last_answer w h m (drop m.end file)
-  last_none within end = rw (drop_end file m.end within end) refl
-
-  module _ (below : m.end < length file) where
-    pub last_other : is_white (get_or file m.end 0) ≡ false → answer.Broken ≡ last_answer w h m (drop m.end file)
-    last_other e = rw (next_byte file m.end below, e) refl
-
-    pub last_white : is_white (get_or file m.end 0) ≡ true
-        → answer.Header (record { width = w.value; height = h.value; maximum = m.value; start = m.end + 1 })
-        ≡ last_answer w h m (drop m.end file)
-    last_white e = rw (next_byte file m.end below, e) refl
+pub is_mark : (file : List ℕ) → pointwise eqb (take 2 file) (80 ∷ 53 ∷ []) ≡ is_marked file
+is_mark [] = refl
+is_mark (a ∷ []) = refl
+is_mark (a ∷ (b ∷ bs)) = ap (λ t. eqb a 80 && t) (and-true (eqb b 53))
 
 -- ---- from fields to a header
 
-module _ (file : List ℕ) {x y z : Read} {w h m : Number} (W : ReadAt file x w) (H : ReadAt file y h)
-    (M : ReadAt file z m) where
-  behind-last : (rest : List ℕ) → Behind file m.end rest
-      → HeaderAt file (read_last x.value y.value z.value rest) (last_answer w h m rest)
-  behind-last [] B = refl
-  behind-last (b ∷ pixels) B =
-      by_test (is_white b)
-      (λ e. rw e
-      (record {
-        width = W.value;
-        height = H.value;
-        maximum = M.value;
-        behind = record {
-          within = omega (arith, behind_length B);
-          dropped = sym (drop-drop 1 m.end file) ∙ ap (drop 1) B.dropped;
-        };
-      }))
-      (λ e. rw e refl)
+-- what the code holds, and what it says was read
+module _ {R A : Type 0} (Held : R → A → Type 0) where
+  pub held_none : (d : Decision R) → HeldIf Held d None → d ≡ refuses 14
+  held_none (accepts r) h = absurd h
+  held_none (refuses k) h = ap refuses h
 
-  pub header_last : HeaderAt file (read_last x.value y.value z.value z.rest)
-      (last_answer w h m (drop m.end file))
-  header_last = subst (λ (rest : List ℕ). HeaderAt file (read_last x.value y.value z.value z.rest)
-      (last_answer w h m rest)) (sym M.behind.dropped) (behind-last z.rest M.behind)
+  pub held_some : (d : Decision R) {a : A} → HeldIf Held d (Some a) → (r : R) × ((d ≡ accepts r) × Held r a)
+  held_some (accepts r) h = (r, (refl, h))
+  held_some (refuses k) h = absurd h
+
+-- the field that begins where the code is
+module _ {xs ys : List ℕ} (e : xs ≡ ys) where
+  pub field_none : HeldIf HeldNumber (read_field xs) None → read_field ys ≡ refuses 14
+  field_none h = rw e at (held_none HeldNumber (read_field xs) h)
+
+  pub field_some : {n : Number} → HeldIf HeldNumber (read_field xs) (Some n)
+      → (r : Read) × ((read_field ys ≡ accepts r) × HeldNumber r n)
+  field_some h = rw e at (held_some HeldNumber (read_field xs) h)
 
 module _ (file : List ℕ) where
-  pub header_unmarked : is_marked file ≡ false → HeaderAt file (read_header file) answer.Broken
+  pub header_unmarked : is_marked file ≡ false → HeldIf HeldHeader (read_header file) None
   unfolding read_header
   header_unmarked e = rw e refl
 
   module _ (marked : is_marked file ≡ true) where
-    pub header_no_width : read_field (drop 2 file) ≡ refuses 14
-        → HeaderAt file (read_header file) answer.Broken
+    pub header_no_width : read_field (drop 2 file) ≡ refuses 14 → HeldIf HeldHeader (read_header file) None
     unfolding read_header
     header_no_width e = rw (marked, e) refl
 
     module _ {w : Read} (width : read_field (drop 2 file) ≡ accepts w) where
-      pub header_no_height : read_field w.rest ≡ refuses 14 → HeaderAt file (read_header file) answer.Broken
+      pub header_no_height : read_field w.rest ≡ refuses 14 → HeldIf HeldHeader (read_header file) None
       unfolding read_header
       header_no_height e = rw (marked, width, e) refl
 
       module _ {h : Read} (height : read_field w.rest ≡ accepts h) where
-        pub header_no_maximum : read_field h.rest ≡ refuses 14
-            → HeaderAt file (read_header file) answer.Broken
+        pub header_no_maximum : read_field h.rest ≡ refuses 14 → HeldIf HeldHeader (read_header file) None
         unfolding read_header
         header_no_maximum e = rw (marked, width, height, e) refl
 
@@ -109,6 +87,34 @@ module _ (file : List ℕ) where
             → read_header file ≡ read_last w.value h.value m.value m.rest
         unfolding read_header
         header_fields e = rw (marked, width, height, e) refl
+
+-- the white byte behind the maximum
+module _ {x y z : Read} {w h m : Number} (W : HeldNumber x w) (H : HeldNumber y h) (M : HeldNumber z m) where
+  last-none : (rest : List ℕ) → HeldIf Shows (behind_white rest) None
+      → HeldIf HeldHeader (read_last x.value y.value z.value rest) None
+  last-none [] held = refl
+  last-none (b ∷ pixels) held =
+      by_test (is_white b) (λ e. absurd (rw e at held)) (λ e. rw e refl)
+
+  last-some : (rest : List ℕ) (pixels : Bor (List ℕ)) → HeldIf Shows (behind_white rest) (Some pixels)
+      → HeldIf HeldHeader (read_last x.value y.value z.value rest)
+      (Some (record { width = w.value; height = h.value; maximum = m.value; pixels = pixels }))
+  last-some [] pixels held = absurd held
+  last-some (b ∷ bs) pixels held =
+      by_test (is_white b)
+      (λ e.
+      let shown = rw e at held in
+      rw e (record { width = W.value; height = H.value; maximum = M.value; pixels = shown }))
+      (λ e. absurd (rw e at held))
+
+  pub header_no_last : HeldIf Shows (behind_white m.rest.now) None
+      → HeldIf HeldHeader (read_last x.value y.value z.value z.rest) None
+  header_no_last held = last-none z.rest (rw M.rest at held)
+
+  pub header_last : (pixels : Bor (List ℕ)) → HeldIf Shows (behind_white m.rest.now) (Some pixels)
+      → HeldIf HeldHeader (read_last x.value y.value z.value z.rest)
+      (Some (record { width = w.value; height = h.value; maximum = m.value; pixels = pixels }))
+  header_last pixels held = last-some z.rest pixels (rw M.rest at held)
 
 -- ---- numbers that are cut give the same refusal
 
@@ -143,16 +149,6 @@ module _ (w h m n : ℕ) where
   unfolding picture_refusal
   picture_sides p some = rw (first_own (sides_refusal w h) _ some) (decided_refuses (sides_refusal w h) p some)
 
-  pub picture_maximum : (p : PgmPicture) → sides_refusal w h ≡ 0 → (m ≡ 255 → ⊥)
-      → decided (picture_refusal w h m n) p ≡ refuses 15
-  unfolding picture_refusal
-  picture_maximum p taken other = rw (taken, ne_eqb m 255 other) refl
-
-  pub picture_count : (p : PgmPicture) → sides_refusal w h ≡ 0 → m ≡ 255 → (n ≡ w * h → ⊥)
-      → decided (picture_refusal w h m n) p ≡ refuses 16
-  unfolding picture_refusal
-  picture_count p taken is other = rw (taken, eq-eqb m 255 is, ne_eqb n (w * h) other) refl
-
   pub picture_given : (p : PgmPicture) → sides_refusal w h ≡ 0 → m ≡ 255 → n ≡ w * h
       → decided (picture_refusal w h m n) p ≡ accepts p
   unfolding picture_refusal
@@ -163,77 +159,46 @@ module _ (w h m n : ℕ) where
   unfolding picture_refusal
   picture-alike m' p e = rw e refl
 
-pub header_picture : {file : List ℕ} {r : HeaderRead} {h : Header} → HeldAt file r h
-    → picture_answer h (length file)
-    ≡ read_answer (decided (picture_refusal r.width r.height r.maximum (length r.pixels)) (picture_in file r))
-header_picture {file} {r} {h} held =
+pub header_picture : (file : List ℕ) {r : HeaderRead} {h : Header} → HeldHeader r h
+    → picture_decision h (length file)
+    ≡ decided (picture_refusal r.width r.height r.maximum (length r.pixels)) (picture_in file r)
+header_picture file {r} {h} held =
     by_test (eqb (sides_refusal r.width r.height) 0)
     (λ t. taken (eqb-true _ 0 t)) (λ t. refused (eqb-false _ 0 t))
   where
-    count : length file - h.start ≡ length r.pixels
-    count = omega (arith, behind_length held.behind)
-
-    start : h.start ≡ length file - length r.pixels
-    start = omega (arith, behind_length held.behind)
-
-    taken : sides_refusal r.width r.height ≡ 0 → picture_answer h (length file)
-        ≡ read_answer (decided (picture_refusal r.width r.height r.maximum (length r.pixels))
-        (picture_in file r))
+    taken : sides_refusal r.width r.height ≡ 0 → picture_decision h (length file)
+        ≡ decided (picture_refusal r.width r.height r.maximum (length r.pixels)) (picture_in file r)
     taken e =
         let few = sides_few r.width r.height e in
         let width : h.width ≡ r.width = held.width ∙ cut_small r.width (omega arith) in
         let height : h.height ≡ r.height = held.height ∙ cut_small r.height (omega arith) in
-        rw (count, width, height, start)
-        (ap read_answer
+        rw (held.pixels, width, height)
         (picture-alike r.width r.height h.maximum (length r.pixels) r.maximum (picture_in file r)
-        (ap (λ (k : ℕ). eqb k 255) held.maximum ∙ cut-maximum r.maximum)))
+        (ap (λ (k : ℕ). eqb k 255) held.maximum ∙ cut-maximum r.maximum))
 
-    refused : (sides_refusal r.width r.height ≡ 0 → ⊥) → picture_answer h (length file)
-        ≡ read_answer (decided (picture_refusal r.width r.height r.maximum (length r.pixels))
-        (picture_in file r))
+    refused : (sides_refusal r.width r.height ≡ 0 → ⊥) → picture_decision h (length file)
+        ≡ decided (picture_refusal r.width r.height r.maximum (length r.pixels)) (picture_in file r)
     refused some =
         let same : sides_refusal h.width h.height ≡ sides_refusal r.width r.height =
         rw (held.width, held.height) (cut_sides r.width r.height) in
-        ap read_answer
-        (picture_sides h.width h.height h.maximum (length file - h.start)
-        (given h.width h.height h.start) (λ z. some (sym same ∙ z))
+        picture_sides h.width h.height h.maximum (length h.pixels.now)
+        (given h.width h.height (length file - length h.pixels.now)) (λ z. some (sym same ∙ z))
         ∙ ap refuses same
-        ∙ sym (picture_sides r.width r.height r.maximum (length r.pixels) (picture_in file r) some))
+        ∙ sym (picture_sides r.width r.height r.maximum (length r.pixels) (picture_in file r) some)
 
 -- ---- the answer
 
-header_held : (file : List ℕ) (d : Decision HeaderRead) {h : Header} → HeaderAt file d (answer.Header h)
-    → (r : HeaderRead) × ((d ≡ accepts r) × HeldAt file r h)
-header_held file (accepts r) held = (r, (refl, held))
-header_held file (refuses k) held = absurd held
-
-header_broken : (file : List ℕ) (d : Decision HeaderRead) → HeaderAt file d answer.Broken → d ≡ refuses 14
-header_broken file (accepts r) held = absurd held
-header_broken file (refuses k) held = ap refuses held
-
-module _ (file : List ℕ) {found : HeaderAnswer} (at : HeaderAt file (read_header file) found) where
-  module _ {h : Header} (is : found ≡ answer.Header h) where
-    held : (r : HeaderRead) × ((read_header file ≡ accepts r) × HeldAt file r h)
-    held = header_held file (read_header file) (rw is at at)
-
-    pub start_within : h.start ≤ length file
-    start_within = held.1.1.behind.within
-
-    pub answer_given : picture_answer h (length file) ≡ read_answer (read_decision file)
-    unfolding read_decision
-    answer_given = rw held.1.0 (header_picture held.1.1)
-
-  pub answer_broken : found ≡ answer.Broken → Refused 14 ≡ read_answer (read_decision file)
+module _ (file : List ℕ) where
+  pub answer_given : (h : Header) → HeldIf HeldHeader (read_header file) (Some h)
+      → picture_decision h (length file) ≡ read_decision file
   unfolding read_decision
-  answer_broken is = rw (header_broken file (read_header file) (rw is at at)) refl
+  answer_given h held =
+      let k = held_some HeldHeader (read_header file) held in
+      rw k.1.0 (header_picture file k.1.1)
 
-pub picture_decided : (d : Decision PgmPicture) {p : PgmPicture} → read_answer d ≡ Picture p → d ≡ accepts p
-picture_decided (accepts q) e = cc
-picture_decided (refuses k) e = let z : ◌≡◌ {A = ℕ} 0 1 = cc in absurd (omega arith)
-
-pub refused_decided : (d : Decision PgmPicture) {n : ℕ} → read_answer d ≡ Refused n → d ≡ refuses n
-refused_decided (accepts q) e = let z : ◌≡◌ {A = ℕ} 0 1 = cc in absurd (omega arith)
-refused_decided (refuses k) e = cc
+  pub answer_broken : HeldIf HeldHeader (read_header file) None → refuses 14 ≡ read_decision file
+  unfolding read_decision
+  answer_broken held = rw (held_none HeldHeader (read_header file) held) refl
 
 -- an accepted file's header
 pub decision_header : (file : List ℕ) {p : PgmPicture} → read_decision file ≡ accepts p
@@ -246,22 +211,9 @@ decision_header file {p} e =
 
 -- ---- the pixels' part
 
-module _ (file : List ℕ) {found : PgmAnswer} (answered : found ≡ read_answer (read_decision file)) where
-  module _ {p : PgmPicture} (is : found ≡ Picture p) where
-    accepted : read_decision file ≡ accepts p
-    accepted = picture_decided (read_decision file) (sym answered ∙ is)
-
-    pub part_within : p.start ≤ length file
-    part_within =
-        let e : length file - length (decision_header file accepted).0.pixels ≡ p.start =
-        ap (λ (q : PgmPicture). q.start) (decision_header file accepted).1.1.1 in
-        omega arith
-
-    pub part_given : take (length file - p.start) (drop p.start file) ≡ pixels_part file
-    part_given =
-        take_all (length file - p.start) (drop p.start file) (omega (arith, length-drop p.start file))
-        ∙ ap (λ (d : Decision PgmPicture). part_of d file) (sym accepted)
-
-  pub part_none : {n : ℕ} → found ≡ Refused n → [] ≡ pixels_part file
-  part_none is =
-      ap (λ (d : Decision PgmPicture). part_of d file) (sym (refused_decided (read_decision file) (sym answered ∙ is)))
+module _ (file : List ℕ) where
+  pub part_within : {p : PgmPicture} → accepts p ≡ read_decision file → p.start ≤ length file
+  part_within {p} told =
+      let e : length file - length (decision_header file (sym told)).0.pixels ≡ p.start =
+      ap (λ (q : PgmPicture). q.start) (decision_header file (sym told)).1.1.1 in
+      omega arith

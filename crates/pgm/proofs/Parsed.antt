@@ -1,23 +1,26 @@
 -- What is read has the form: its parts are found in the bytes.
-use Prim.Native.Nat.{ℕ}
+use Prim.Native.Nat.{ℕ, ◌≤◌}
 use native.Mathlib.Omega.{arith}
 use mathlib.Core.Bool.{Bool, true, false, and-eq-true_iff}
 use mathlib.Core.List.{List, [], ◌∷◌, ◌++◌, append_assoc}
 use mathlib.Core.Path.{◌≡◌, refl, sym, ap, ap₂, subst, ◌∙◌}
 use borrow.Author.Tests.{eqb-true}
 use lib.Dec.{eqb}
-use lib.ListN.{length, drop}
+use lib.ListN.{length, drop, length-append}
+use Rattle.std.proofs.Common.{Some}
 use lib.Seq.{append_snoc}
 use Rattle.numbers.proofs.Test.{by_test}
 use Rattle.image.specs.Call.{accepts, and_then}
 use Rattle.image.proofs.Call.{accepts_not_refuses, then_accepts}
 use Rattle.pgm.specs.Form.{is_end, is_white, is_digit, Each, Gap, blank, comment, gap_bytes, gaps_bytes, GapsFormed}
-use Rattle.pgm.specs.Form.{value_of, Field, field_bytes, FieldFormed, field_value, Header, Formed}
+use Rattle.pgm.specs.Form.{value_of, Field, field_bytes, FieldFormed, field_value, Header, header_bytes, Formed}
 use Rattle.pgm.specs.Read.{behind_gaps, digits_of, behind_digits, Read, read_field, HeaderRead}
 use Rattle.pgm.specs.Read.{is_marked, read_last, read_header}
 use Rattle.pgm.proofs.Bytes.{white_no_hash, hash_no_end}
 use Rattle.pgm.proofs.Fields.{digits_all, no_gap, no_digit, a_field}
-use Rattle.pgm.proofs.Headers.{marked_long}
+use Rattle.pgm.specs.Held.{HeldIf, HeldHeader}
+use Rattle.pgm.specs.declared.header.Header as Held
+use Rattle.pgm.proofs.Headers.{marked_long, held_some}
 
 -- ---- gaps
 
@@ -231,3 +234,11 @@ header_found file r e =
           height = l.height ∙ fh.value;
           maximum = l.maximum ∙ fm.value;
         }
+
+-- the pixels end the file
+pub pixels_within : (file : List ℕ) (h : Held.Header) → HeldIf HeldHeader (read_header file) (Some h)
+    → length h.pixels.now ≤ length file
+pixels_within file h held =
+    let k = held_some HeldHeader (read_header file) held in
+    let f = header_found file k.0 k.1.0 in
+    omega (arith, ap length f.formed.bytes, length-append (header_bytes f.header) k.0.pixels, ap length k.1.1.pixels)

@@ -10,7 +10,7 @@ use lib.ListN.{length, get_or, drop}
 use lib.Seq.{drop-cons, drop-length}
 use Rattle.pgm.specs.Form.{is_digit, on_from}
 use Rattle.pgm.specs.Read.{skips, comments, behind_gaps, digits_of, behind_digits}
-use Rattle.pgm.specs.Places.{cut}
+use Rattle.pgm.specs.Held.{cut}
 
 pub drop_end : (file : List ℕ) (at : ℕ) → at ≤ length file → length file ≤ at → drop at file ≡ []
 drop_end file at h k = let e : at ≡ length file = omega arith in rw e (drop-length file)
@@ -50,7 +50,7 @@ module _ (file : List ℕ) (at : ℕ) (below : at < length file) where
 -- ---- at the file's end
 
 module _ (file : List ℕ) (at : ℕ) (within : at ≤ length file) (end : length file ≤ at) where
-  pub gaps_end : (comment : Bool) → drop at file ≡ behind_gaps comment (drop at file)
+  pub gaps_end : (comment : Bool) → [] ≡ behind_gaps comment (drop at file)
   unfolding behind_gaps
   gaps_end comment = rw (drop_end file at within end) refl
 
@@ -58,7 +58,7 @@ module _ (file : List ℕ) (at : ℕ) (within : at ≤ length file) (end : lengt
   unfolding digits_of
   digits_end = rw (drop_end file at within end) refl
 
-  pub behind_end : drop at file ≡ behind_digits (drop at file)
+  pub behind_end : [] ≡ behind_digits (drop at file)
   unfolding behind_digits
   behind_end = rw (drop_end file at within end) refl
 

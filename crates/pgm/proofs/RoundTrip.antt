@@ -11,20 +11,20 @@ use lib.Dec.{ltb}
 use lib.ListN.{length, get_or, take}
 use lib.Seq.{append_snoc, drop-append_seam}
 use Rattle.numbers.proofs.Test.{by_test}
-use Rattle.image.specs.Call.{Gray8, Decision, accepts, refuses, room_for}
+use Rattle.std.proofs.Common.{Ok}
+use Rattle.image.specs.Call.{Gray8, Decision, accepts, refuses, map_found, room_for}
 use Rattle.image.specs.Picture.{pixel, pixels_of}
 use Rattle.image.specs.Refusal.{Laid}
-use Rattle.image.proofs.Call.{unless_accepts}
+use Rattle.image.proofs.Call.{accepts_not_refuses, unless_accepts}
 use Rattle.image.proofs.Front.{room_accepts, front_is}
-use Rattle.image.proofs.Refusal.{laid}
+use Rattle.image.proofs.Accepted.{laid}
 use Rattle.image.proofs.Tight.{length_pixels}
 use Rattle.pgm.specs.Form.{is_digit, Each, blank, on_from, value_of, Field, field_bytes, FieldFormed, field_value}
 use Rattle.pgm.specs.Form.{Header, header_bytes, Holds}
 use Rattle.pgm.specs.Read.{read_decision, part_of, pixels_part}
-use Rattle.pgm.specs.Write.{digits, digit_count, decimal, header_lines, pgm_bytes, write_decision, write_answer}
+use Rattle.pgm.specs.Write.{digits, digit_count, decimal, header_lines, pgm_bytes, write_decision}
 use Rattle.pgm.specs.Write.{PgmWritten}
 use Rattle.pgm.specs.declared.PgmPicture.{PgmPicture}
-use Rattle.pgm.specs.declared.WriteAnswer.TheVariants.{Written}
 use Rattle.pgm.proofs.Accepted.{holds_read}
 use Rattle.pgm.proofs.Digits.{count_1, count_2, count_3, count_4, digit_small, length_digits}
 
@@ -190,7 +190,7 @@ module _ (src : Gray8) (l : Laid (length src.bytes) src.width src.height src.str
       ∙ drop-append_seam (header_lines src.width src.height) px
 
 -- what a call has written, where it answers a length
-pub call_read : (src : Gray8) {old new : List ℕ} {n : ℕ} → PgmWritten src old new (Written n)
+pub call_read : (src : Gray8) {old new : List ℕ} {n : ℕ} → PgmWritten src old new (Ok n)
     → (l : Laid (length src.bytes) src.width src.height src.stride)
     × ((read_decision (take n new) ≡ accepts (written src l))
     × (pixels_part (take n new) ≡ pixels_of src.width src.height (pixel src.bytes src.stride)))
@@ -201,7 +201,7 @@ call_read src {old} {new} {n} o = go (write_decision src (length old)) refl
         × ((read_decision (take n new) ≡ accepts (written src l))
         × (pixels_part (take n new) ≡ pixels_of src.width src.height (pixel src.bytes src.stride)))
     go (accepts xs) is =
-        let said = o.answered ∙ ap write_answer is in
+        let said = o.answered ∙ ap (map_found length) is in
         let count : n ≡ length xs = cc in
         let a = unless_accepts _ (room_for 5 (length old) (pgm_bytes src)) xs is in
         let l = laid a.0 in
@@ -210,6 +210,5 @@ call_read src {old} {new} {n} o = go (write_decision src (length old)) refl
         ∙ sym (room_accepts 5 (length old) (pgm_bytes src) a.1) in
         (l, (ap read_decision all ∙ written_read src l, ap pixels_part all ∙ written_pixels src l))
     go (refuses k) is =
-        let said = o.answered ∙ ap write_answer is in
-        let z : ◌≡◌ {A = ℕ} 0 1 = cc in
-        absurd (omega arith)
+        let said = o.answered ∙ ap (map_found length) is in
+        absurd (accepts_not_refuses said)

@@ -3,4 +3,4 @@ pub mod Form
 pub mod Read
 pub mod Write
 pub mod Conditions
-pub mod Places
+pub mod Held

@@ -5,8 +5,6 @@ use Rattle.image.specs.Call.{Decision, accepts, refuses, and_then, decided}
 use Rattle.image.specs.Refusal.{first_refusal, sides_refusal}
 use Rattle.pgm.specs.Form.{is_end, is_white, is_digit, value_of}
 use Rattle.pgm.specs.declared.PgmPicture.{PgmPicture}
-use Rattle.pgm.specs.declared.PgmAnswer.{PgmAnswer}
-use Rattle.pgm.specs.declared.PgmAnswer.TheVariants.{Picture, Refused}
 
 -- ---- gaps: white bytes and comments
 
@@ -93,10 +91,6 @@ unfolding read_header picture_refusal
 read_decision file =
     and_then (read_header file) λ h.
     decided (picture_refusal h.width h.height h.maximum (length h.pixels)) (picture_in file h)
-
-abbrev pub read_answer : Decision PgmPicture → PgmAnswer
-read_answer (accepts p) = Picture p
-read_answer (refuses number) = Refused number
 
 -- the part; none where the file is refused
 abbrev pub part_of : Decision PgmPicture → List ℕ → List ℕ

@@ -1,10 +1,9 @@
 -- Document 02, K3: what the writer writes.
-use Rattle.std.specs.Prelude.{ℕ, zero, suc, ◌+◌, ◌/◌, ◌%◌, cond, List, [], ◌∷◌, ◌++◌, ltb, length}
-use Rattle.image.specs.Call.{Gray8, Decision, accepts, refuses, unless, room_for, FrontWrites, Outcome}
+use Rattle.std.specs.Prelude.{ℕ, zero, suc, ◌+◌, ◌/◌, ◌%◌, cond, List, Result, [], ◌∷◌, ◌++◌, ltb, length}
+use Rattle.image.specs.Call.{Gray8, Decision, unless, told, map_found, room_for, FrontWrites, Outcome}
+use Rattle.image.specs.declared.refusal.Refusal.{Refusal}
 use Rattle.image.specs.Picture.{pixel, pixels_of}
 use Rattle.image.specs.Refusal.{layout_refusal}
-use Rattle.pgm.specs.declared.WriteAnswer.{WriteAnswer}
-use Rattle.pgm.specs.declared.WriteAnswer.TheVariants.{Written, Refused}
 
 -- ---- "numbers without leading zeros"
 
@@ -47,10 +46,7 @@ write_decision src room =
     unless (layout_refusal (length src.bytes) src.width src.height src.stride)
     (room_for 5 room (pgm_bytes src))
 
-abbrev pub write_answer : Decision (List ℕ) → WriteAnswer
-write_answer (accepts xs) = Written (length xs)
-write_answer (refuses number) = Refused number
-
-abbrev pub PgmWritten : Gray8 → List ℕ → List ℕ → WriteAnswer → Type 0
+-- the answer is how many bytes were written
+abbrev pub PgmWritten : Gray8 → List ℕ → List ℕ → Result ℕ Refusal → Type 0
 PgmWritten src old new answer =
-    Outcome (write_decision src (length old)) write_answer FrontWrites old new (tt {0}) (tt {0}) answer
+    Outcome (write_decision src (length old)) (map_found length) FrontWrites old new (tt {0}) (tt {0}) (told answer)

@@ -1,44 +1,33 @@
-// Reading a header, byte by byte: its length is all that the time depends on.
-ghost use Rattle.std.specs.Prelude.{◌≡◌, false, ◌≤◌, length, drop};
-ghost use Rattle.pgm.specs.Form.{is_end, is_white, is_digit};
-ghost use Rattle.pgm.specs.Read.{skips, comments, behind_gaps, is_marked, read_field, read_header};
-ghost use Rattle.pgm.specs.Places.{Behind, NumberAt, FieldAt, HeaderAt, last_answer, picture_answer};
+// Reading a header, byte by byte from the file's front: its length is all that the time depends on.
+ghost use Rattle.std.specs.Prelude.{◌≡◌, false, ◌≤◌, length};
+ghost use Rattle.image.specs.Call.{told};
+ghost use Rattle.pgm.specs.Form.{is_end, is_white};
+ghost use Rattle.pgm.specs.Read.{skips, comments, behind_gaps, read_field, read_header};
+ghost use Rattle.pgm.specs.Held.{NumberOf, HeldIf, HeldNumber, HeldHeader, Shows, behind_white, picture_decision};
 
-use crate::{PgmAnswer, PgmPicture};
-use image::Gray8View;
-use numbers::min_usize;
+use crate::PgmPicture;
+use image::{Gray8View, Refusal};
 
-// A number, cut to `MOST`, and the place behind it.
+// A number, cut to `MOST`, and what stands behind it.
 #[derive(Clone, Copy)]
-pub(crate) struct Number {
+pub(crate) struct Number<'a> {
     value: usize,
-    end: usize,
+    rest: &'a [u8],
 }
 
+// The numbers, cut to `MOST`, and the pixels.
 #[derive(Clone, Copy)]
-pub(crate) enum Field {
-    Number(Number),
-    Missing,
-}
-
-// The numbers, cut to `MOST`, and the place of the first pixel.
-#[derive(Clone, Copy)]
-pub(crate) struct Header {
+pub(crate) struct Header<'a> {
     width: usize,
     height: usize,
     maximum: usize,
-    start: usize,
-}
-
-#[derive(Clone, Copy)]
-pub(crate) enum HeaderAnswer {
-    Header(Header),
-    Broken,
+    pixels: &'a [u8],
 }
 
 // No larger number is told from another: it is too large a side, and no maximum that is read.
 const MOST: usize = Gray8View::MAX_SIDE + 1;
 
+// Tests of a byte by `|`, without a branch: by `matches!` the bytes of a comment take three times as long.
 fn is_end(byte: u8) -> bool
     ensures { result ≡ is_end byte }
 {
@@ -49,12 +38,6 @@ fn is_white(byte: u8) -> bool
     ensures { result ≡ is_white byte }
 {
     (byte == b' ') | (byte == b'\t') | (byte == b'\n') | (byte == b'\r')
-}
-
-fn is_digit(byte: u8) -> bool
-    ensures { result ≡ is_digit byte }
-{
-    (b'0' <= byte) & (byte <= b'9')
 }
 
 // Whether a byte belongs to a gap, within a comment or not.
@@ -71,123 +54,93 @@ fn comments(comment: bool, byte: u8) -> bool
     (comment | (byte == b'#')) & !is_end(byte)
 }
 
-// The place behind the gaps that begin at a place. A comment without an end goes to the file's end.
-fn skip_gaps(file: &[u8], start: usize) -> usize
-    requires { start ≤ length file.now }
-    ensures { Behind file.now result (behind_gaps false (drop start file.now)) }
+// What stands behind the gaps that begin here. A comment without an end goes to the file's end.
+fn skip_gaps(bytes: &[u8]) -> &[u8]
+    ensures { result.now ≡ behind_gaps false bytes.now }
 {
-    let mut at = start;
     let mut comment = false;
-    while at < file.len() {
-        let byte = file[at];
+    for (i, &byte) in bytes.iter().enumerate() {
         if !skips(comment, byte) {
-            return at;
+            return &bytes[i..];
         }
         comment = comments(comment, byte);
-        at += 1;
     }
-    at
+    &[]
 }
 
-// The number whose digits begin at a place; 0 where there is no digit, and the place itself.
-fn number_at(file: &[u8], start: usize) -> Number
-    requires { start ≤ length file.now }
-    ensures { NumberAt file.now (drop start file.now) result }
+// The number whose digits begin here; 0 where there is no digit.
+fn number_at(bytes: &[u8]) -> Number<'_>
+    ensures { NumberOf bytes.now result }
 {
     let mut value = 0;
-    let mut at = start;
-    while at < file.len() {
-        let byte = file[at];
-        if !is_digit(byte) {
-            return Number { value, end: at };
+    for (i, &byte) in bytes.iter().enumerate() {
+        if !byte.is_ascii_digit() {
+            return Number {
+                value,
+                rest: &bytes[i..],
+            };
         }
-        value = min_usize(10 * value + (byte - b'0') as usize, MOST);
-        at += 1;
+        value = (10 * value + usize::from(byte - b'0')).min(MOST);
     }
-    Number { value, end: at }
+    Number { value, rest: &[] }
 }
 
 // A gap or more, and a number.
-fn field_at(file: &[u8], at: usize) -> Field
-    requires { at ≤ length file.now }
-    ensures { FieldAt file.now (read_field (drop at file.now)) result }
+fn field_at(bytes: &[u8]) -> Option<Number<'_>>
+    ensures { HeldIf HeldNumber (read_field bytes.now) result }
 {
-    let start = skip_gaps(file, at);
-    if start == at {
-        return Field::Missing;
+    let digits = skip_gaps(bytes);
+    if digits.len() == bytes.len() {
+        return None;
     }
-    let number = number_at(file, start);
-    if number.end == start {
-        return Field::Missing;
+    let number = number_at(digits);
+    if number.rest.len() == digits.len() {
+        return None;
     }
-    Field::Number(number)
+    Some(number)
 }
 
-fn is_marked(file: &[u8]) -> bool
-    ensures { result ≡ is_marked file.now }
+// What stands behind the white byte here.
+fn behind_white(bytes: &[u8]) -> Option<&[u8]>
+    ensures { HeldIf Shows (behind_white bytes.now) result }
 {
-    if file.len() < 2 {
-        return false;
+    match bytes {
+        [first, rest @ ..] if is_white(*first) => Some(rest),
+        _ => None,
     }
-    (file[0] == b'P') & (file[1] == b'5')
 }
 
-// The white byte behind the maximum.
-fn last_at(file: &[u8], width: Number, height: Number, maximum: Number) -> HeaderAnswer
-    requires { maximum.end ≤ length file.now }
-    ensures { result ≡ last_answer width height maximum (drop maximum.end file.now) }
+pub(crate) fn read_header(file: &[u8]) -> Option<Header<'_>>
+    ensures { HeldIf HeldHeader (read_header file.now) result }
 {
-    let at = maximum.end;
-    if at >= file.len() {
-        return HeaderAnswer::Broken;
-    }
-    if !is_white(file[at]) {
-        return HeaderAnswer::Broken;
-    }
-    HeaderAnswer::Header(Header {
+    let fields = file.strip_prefix(b"P5")?;
+    let width = field_at(fields)?;
+    let height = field_at(width.rest)?;
+    let maximum = field_at(height.rest)?;
+    Some(Header {
         width: width.value,
         height: height.value,
         maximum: maximum.value,
-        start: at + 1,
+        pixels: behind_white(maximum.rest)?,
     })
 }
 
-pub(crate) fn read_header(file: &[u8]) -> HeaderAnswer
-    ensures { HeaderAt file.now (read_header file.now) result }
-{
-    if !is_marked(file) {
-        return HeaderAnswer::Broken;
-    }
-    match field_at(file, 2) {
-        Field::Number(width) => match field_at(file, width.end) {
-            Field::Number(height) => match field_at(file, height.end) {
-                Field::Number(maximum) => last_at(file, width, height, maximum),
-                Field::Missing => HeaderAnswer::Broken,
-            },
-            Field::Missing => HeaderAnswer::Broken,
-        },
-        Field::Missing => HeaderAnswer::Broken,
-    }
-}
-
 // What a header says of a file of len bytes.
-pub(crate) fn picture_of(header: Header, len: usize) -> PgmAnswer
-    requires { header.start ≤ len }
-    ensures { result ≡ picture_answer header len }
+#[tactic(auto, unfolding(crate::specs::Read::picture_refusal))]
+pub(crate) fn picture_of<'a>(header: Header<'a>, len: usize) -> Result<PgmPicture, Refusal>
+    requires { length header.pixels.now ≤ len }
+    ensures { told result ≡ picture_decision header.entry len }
 {
-    let sides = image::sides_refusal(header.width, header.height);
-    if sides != 0 {
-        return PgmAnswer::Refused(sides);
-    }
+    image::check_sides(header.width, header.height)?;
     if header.maximum != 255 {
-        return PgmAnswer::Refused(15);
+        return Err(Refusal::UnsupportedMaximum);
     }
-    if len - header.start != header.width * header.height {
-        return PgmAnswer::Refused(16);
+    if header.pixels.len() != header.width * header.height {
+        return Err(Refusal::PixelCountMismatch);
     }
-    PgmAnswer::Picture(PgmPicture {
+    Ok(PgmPicture {
         width: header.width,
         height: header.height,
-        start: header.start,
+        start: len - header.pixels.len(),
     })
 }

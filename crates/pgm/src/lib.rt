@@ -2,46 +2,35 @@
 #![tactic(auto)]
 
 ghost use Rattle.std.specs.Prelude.{◌≡◌};
-ghost use Rattle.image.specs.Call.{gray8};
-ghost use Rattle.pgm.specs.Read.{read_decision, read_answer, pixels_part};
+ghost use Rattle.image.specs.Call.{told};
+ghost use Rattle.image.specs.View.{seen};
+ghost use Rattle.pgm.specs.Read.{read_decision, pixels_part};
 ghost use Rattle.pgm.specs.Write.{PgmWritten};
 
-use crate::header::{HeaderAnswer, picture_of, read_header};
+use crate::header::{picture_of, read_header};
 use crate::lines::{header_length, put_header, put_pixels};
+use image::{Gray8View, Refusal};
 
 mod header;
 mod lines;
 
 // The picture in a file: its sides, and the place of its first pixel. The pixels are tight and end the file.
-#[derive(Clone, Copy)]
+#[derive(Clone, Copy, Debug, PartialEq, Eq)]
 pub struct PgmPicture {
     pub width: usize,
     pub height: usize,
     pub start: usize,
 }
 
-#[derive(Clone, Copy)]
-pub enum PgmAnswer {
-    Picture(PgmPicture),
-    Refused(u8),
-}
-
-#[derive(Clone, Copy)]
-pub enum WriteAnswer {
-    // How many bytes were written.
-    Written(usize),
-    Refused(u8),
-}
-
 // The picture in a file. Refusals: 14 for a header that breaks the form; then 1 and 2 for its sides, 15 for a maximum
 // other than 255, 16 for missing or surplus pixel bytes.
-pub fn read(file: &[u8]) -> PgmAnswer
-    ensures { result ≡ read_answer (read_decision file.now) }
+pub fn read(file: &[u8]) -> Result<PgmPicture, Refusal>
+    ensures { told result ≡ read_decision file.now }
 {
-    match read_header(file) {
-        HeaderAnswer::Header(header) => picture_of(header, file.len()),
-        HeaderAnswer::Broken => PgmAnswer::Refused(14),
-    }
+    let Some(header) = read_header(file) else {
+        return Err(Refusal::InvalidHeader);
+    };
+    picture_of(header, file.len())
 }
 
 // The part of a file that holds its pixels; the empty part where the file is refused.
@@ -49,29 +38,23 @@ pub fn pixels_of(file: &[u8]) -> &[u8]
     ensures { result.now ≡ pixels_part file.now }
 {
     match read(file) {
-        PgmAnswer::Picture(picture) => {
-            let start = picture.start;
-            &file[start..]
-        }
-        PgmAnswer::Refused(_) => &file[0..0],
+        Ok(picture) => &file[picture.start..],
+        Err(_) => &file[..0],
     }
 }
 
-// Write a picture to the front of out. Refusals 1 to 4 of the picture, then 5 where out is too short.
-pub fn write(data: &[u8], width: usize, height: usize, stride: usize, out: &mut [u8]) -> WriteAnswer
-    ensures { PgmWritten (gray8 «data».now width height stride)
-        out.old out.new result }
+// Write a picture to the front of out; how many bytes that were. Refusals 1 to 4 of the picture, then 5 where out is
+// too short.
+pub fn write<'a>(src: Gray8View<'a>, out: &mut [u8]) -> Result<usize, Refusal>
+    ensures { PgmWritten (seen src.entry) out.old out.new result }
 {
-    let refusal = image::layout_refusal(data.len(), width, height, stride);
-    if refusal != 0 {
-        return WriteAnswer::Refused(refusal);
-    }
-    let start = header_length(width, height);
-    let end = start + width * height;
+    src.check()?;
+    let start = header_length(src.width, src.height);
+    let end = start + src.width * src.height;
     if out.len() < end {
-        return WriteAnswer::Refused(5);
+        return Err(Refusal::InvalidDestination);
     }
-    put_header(width, height, out);
-    put_pixels(data, width, height, stride, &mut out[start..end]);
-    WriteAnswer::Written(end)
+    put_header(src.width, src.height, out);
+    put_pixels(src, &mut out[start..end]);
+    Ok(end)
 }

@@ -2,23 +2,22 @@
 ghost use Rattle.std.specs.Prelude.{◌≡◌, ◌++◌, ◌+◌, ◌*◌, ◌≤◌, length, drop};
 ghost use Rattle.image.specs.Call.{Appended};
 ghost use Rattle.image.specs.Picture.{pixel, pixels_of};
-ghost use Rattle.image.specs.Refusal.{Laid};
+ghost use Rattle.image.specs.View.{LaidView};
 ghost use Rattle.pgm.specs.Write.{digits, digit_count, number_line, header_lines};
 
+use image::Gray8View;
+
 // How many digits a number below 10,000 has.
+#[tactic(auto, unfolding(crate::specs::Write::digit_count))]
 fn digit_count(n: usize) -> usize
     ensures { result ≡ digit_count n }
 {
-    if n < 10 {
-        return 1;
+    match n {
+        0..10 => 1,
+        10..100 => 2,
+        100..1000 => 3,
+        _ => 4,
     }
-    if n < 100 {
-        return 2;
-    }
-    if n < 1000 {
-        return 3;
-    }
-    4
 }
 
 // The last digits of n, as many as fill out.
@@ -26,10 +25,8 @@ fn put_digits(n: usize, out: &mut [u8])
     ensures { out.new ≡ digits (length out.old) n }
 {
     let mut rest = n;
-    let mut at = out.len();
-    while at > 0 {
-        at -= 1;
-        out[at] = b'0' + (rest % 10) as u8;
+    for place in (0..out.len()).rev() {
+        out[place] = b'0' + (rest % 10) as u8;
         rest /= 10;
     }
 }
@@ -46,6 +43,7 @@ fn put_number(n: usize, at: usize, out: &mut [u8]) -> usize
 }
 
 // How many bytes the header has.
+#[tactic(auto, using(crate::proofs::Digits::count_most, crate::proofs::Digits::length_header))]
 pub(crate) fn header_length(width: usize, height: usize) -> usize
     ensures { result ≡ length (header_lines width height) }
 {
@@ -65,10 +63,11 @@ pub(crate) fn put_header(width: usize, height: usize, out: &mut [u8])
 }
 
 // The pixels, tight.
-pub(crate) fn put_pixels(data: &[u8], width: usize, height: usize, stride: usize, out: &mut [u8])
-    requires laid { Laid (length «data».now) width height stride }
-    requires out_len { length out.old ≡ width * height }
-    ensures { out.new ≡ pixels_of width height (pixel «data».now stride) }
+pub(crate) fn put_pixels<'a>(src: Gray8View<'a>, out: &mut [u8])
+    requires laid { LaidView src }
+    requires out_len { length out.old ≡ src.width * src.height }
+    ensures { out.new ≡ pixels_of src.entry.width src.entry.height
+        (pixel src.entry.«data».now src.entry.stride) }
 {
-    image::kernel::copy_rows(data, width, height, stride, out, width);
+    image::kernel::copy_rows(src, out, src.width);
 }

@@ -10,9 +10,10 @@ use lib.IntN.{ℤ}
 use lib.Ieee.{Float, nan, inf, fin, binary64, up, down, of_bits, mul, le}
 use lib.Ieee.Positive.{positive, num, den, den_pos, own_value, mul_at, mul_mono}
 use lib.Ieee.Scale.{finite}
+use Rattle.std.specs.Prelude.{is_some}
 use Rattle.numbers.proofs.Test.{bool_cases}
 use Rattle.floats.proofs.Overflow.{round_sign, round_infinite}
-use Rattle.raster.specs.Direction.{in_degrees, from_angle, is_found, last_angle, next_angle}
+use Rattle.raster.specs.Direction.{in_degrees, from_angle, last_angle, next_angle}
 use Rattle.raster.proofs.Snapped.{by_degrees}
 
 -- 57.29577951308232
@@ -62,7 +63,7 @@ next_infinite : in_degrees next_angle ≡ inf false
 unfolding in_degrees next_angle of_bits mul
 next_infinite = refl
 
-pub up_to_last : (x : Float) → T (positive x) → T (le x last_angle) → is_found (from_angle x) ≡ true
+pub up_to_last : (x : Float) → T (positive x) → T (le x last_angle) → is_some (from_angle x) ≡ true
 up_to_last x p h =
     by_degrees x
     ∙ ⊎_elim (λ e. e)
@@ -71,7 +72,7 @@ up_to_last x p h =
     (degrees_grow x last_angle p last_positive h))))
     (bool_cases (finite (in_degrees x)))
 
-pub from_next : (x : Float) → T (positive x) → T (le next_angle x) → is_found (from_angle x) ≡ false
+pub from_next : (x : Float) → T (positive x) → T (le next_angle x) → is_some (from_angle x) ≡ false
 from_next x p h =
     by_degrees x
     ∙ ⊎_elim
@@ -80,7 +81,7 @@ from_next x p h =
     (degrees_grow next_angle x next_positive p h)))) (λ e. e)
     (bool_cases (finite (in_degrees x)))
 
-pub either_sign : (m : ℕ) (e : ℤ) → is_found (from_angle (fin true m e)) ≡ is_found (from_angle (fin false m e))
+pub either_sign : (m : ℕ) (e : ℤ) → is_some (from_angle (fin true m e)) ≡ is_some (from_angle (fin false m e))
 unfolding in_degrees degree of_bits mul
 either_sign m e =
     by_degrees (fin true m e)

@@ -7,12 +7,9 @@ use lib.Ieee.{Float, nan, inf, fin, of_bits, mul}
 use lib.Ieee.Scale.{finite}
 use Rattle.numbers.proofs.Test.{bool_cases, and_false_right}
 use Rattle.raster.specs.Before.{rest_before, half_turn_before, direction_before}
-use Rattle.raster.specs.Direction.{in_degrees, signed_rest, half_turn, nearest_to, from_angle, is_found, NoDirection}
+use Rattle.raster.specs.Direction.{in_degrees, signed_rest, half_turn, nearest_to, from_angle, NoDirection}
 use Rattle.raster.specs.declared.direction.RasterDirection4.{RasterDirection4}
-use Rattle.raster.specs.declared.direction.SnappedDirection.TheVariants.{Found, Nothing}
-
-found_same : {d e : RasterDirection4} → Found d ≡ Found e → d ≡ e
-found_same e = cc
+use Rattle.std.specs.Prelude.{Some, None, is_some}
 
 -- ---- degrees
 
@@ -26,24 +23,24 @@ degrees_finite (fin s m e') e = refl
 -- ---- the answer, by the degrees alone
 
 module _ (angle : Float) where
-  pub found_nearest : finite (in_degrees angle) ≡ true → from_angle angle ≡ Found (nearest_to (in_degrees angle))
+  pub found_nearest : finite (in_degrees angle) ≡ true → from_angle angle ≡ Some (nearest_to (in_degrees angle))
   unfolding from_angle
   found_nearest e = rw (degrees_finite angle e, e)
 
-  pub is_nothing : finite (in_degrees angle) ≡ false → from_angle angle ≡ Nothing
+  pub is_nothing : finite (in_degrees angle) ≡ false → from_angle angle ≡ None
   unfolding from_angle
   is_nothing e =
-      ap (λ (t : Bool). cond t (Found (nearest_to (in_degrees angle))) Nothing) (and_false_right (finite angle) e)
+      ap (λ (t : Bool). cond t (Some (nearest_to (in_degrees angle))) None) (and_false_right (finite angle) e)
 
   -- "either a direction or that there is none", by the degrees
-  pub by_degrees : is_found (from_angle angle) ≡ finite (in_degrees angle)
-  by_degrees = ⊎_elim (λ e. ap is_found (found_nearest e) ∙ sym e) (λ e. ap is_found (is_nothing e) ∙ sym e)
+  pub by_degrees : is_some (from_angle angle) ≡ finite (in_degrees angle)
+  by_degrees = ⊎_elim (λ e. ap is_some (found_nearest e) ∙ sym e) (λ e. ap is_some (is_nothing e) ∙ sym e)
       (bool_cases (finite (in_degrees angle)))
 
-  pub found_iff : (is_found (from_angle angle) ≡ true) ↔ (finite (in_degrees angle) ≡ true)
+  pub found_iff : (is_some (from_angle angle) ≡ true) ↔ (finite (in_degrees angle) ≡ true)
   found_iff = (λ e. sym by_degrees ∙ e, λ e. by_degrees ∙ e)
 
-  pub found_finite : is_found (from_angle angle) ≡ true → finite angle ≡ true
+  pub found_finite : is_some (from_angle angle) ≡ true → finite angle ≡ true
   found_finite e = degrees_finite angle (found_iff.0 e)
 
   infinite-degrees : finite angle ≡ false → finite (in_degrees angle) ≡ false
@@ -51,17 +48,17 @@ module _ (angle : Float) where
       (bool_cases (finite (in_degrees angle)))
 
   -- none exactly where "the angle or its value in degrees isn't finite"
-  pub not_found_iff : (is_found (from_angle angle) ≡ false) ↔ NoDirection angle
+  pub not_found_iff : (is_some (from_angle angle) ≡ false) ↔ NoDirection angle
   not_found_iff = (λ e. inr (sym by_degrees ∙ e), λ n. by_degrees ∙ ⊎_elim infinite-degrees (λ z. z) n)
 
-  pub nothing_iff : (from_angle angle ≡ Nothing) ↔ NoDirection angle
-  nothing_iff = (λ e. not_found_iff.0 (ap is_found e), λ n. is_nothing (sym by_degrees ∙ not_found_iff.1 n))
+  pub nothing_iff : (from_angle angle ≡ None) ↔ NoDirection angle
+  nothing_iff = (λ e. not_found_iff.0 (ap is_some e), λ n. is_nothing (sym by_degrees ∙ not_found_iff.1 n))
 
   -- ---- what it was
 
-  pub as_before : (d : RasterDirection4) → from_angle angle ≡ Found d → d ≡ direction_before angle
+  pub as_before : (d : RasterDirection4) → from_angle angle ≡ Some d → d ≡ direction_before angle
   unfolding direction_before half_turn_before rest_before nearest_to half_turn signed_rest in_degrees
-  as_before d e = found_same (sym e ∙ found_nearest (found_iff.0 (ap is_found e)))
+  as_before d e = let n = found_nearest (found_iff.0 (ap is_some e)) in cc
 
-  pub same_as_before : finite (in_degrees angle) ≡ true → from_angle angle ≡ Found (direction_before angle)
-  same_as_before e = found_nearest e ∙ ap Found (as_before _ (found_nearest e))
+  pub same_as_before : finite (in_degrees angle) ≡ true → from_angle angle ≡ Some (direction_before angle)
+  same_as_before e = found_nearest e ∙ ap Some (as_before _ (found_nearest e))

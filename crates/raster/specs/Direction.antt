@@ -1,5 +1,5 @@
 -- The four directions, and the direction nearest to an angle, where it has one.
-use Rattle.std.specs.Prelude.{◌≡◌, refl, Bool, true, false, cond, ◌&&◌, [], ◌∷◌, map, ◌⊎◌, ℕ, eqb, pos, negsuc, replicate, Float}
+use Rattle.std.specs.Prelude.{◌≡◌, refl, false, cond, ◌&&◌, [], ◌∷◌, map, ◌⊎◌, ℕ, eqb, pos, negsuc, replicate, Float, Option, Some, None, is_some}
 use Rattle.std.specs.Float.{binary64}
 use Rattle.std.specs.Float.Ieee.{of_bits, add, mul, div, rem, lt}
 use Rattle.std.specs.Float.Ieee.Scale.{finite}
@@ -7,8 +7,6 @@ use Rattle.raster.specs.declared.direction.RasterDirection4.{RasterDirection4}
 use Rattle.raster.specs.declared.direction.RasterDirection4.TheVariants.{Horizontal, DownRight}
 use Rattle.raster.specs.declared.direction.RasterDirection4.TheVariants.{Vertical, DownLeft}
 use Rattle.raster.specs.declared.direction.RasterStep.{RasterStep}
-use Rattle.raster.specs.declared.direction.SnappedDirection.{SnappedDirection}
-use Rattle.raster.specs.declared.direction.SnappedDirection.TheVariants.{Found, Nothing}
 
 -- ---- document 01, "Views and lines": a line steps (1,0) Horizontal, (1,1) DownRight, (0,1) Vertical, (−1,1) DownLeft
 
@@ -61,21 +59,17 @@ nearest_to deg = nearest (div binary64 (half_turn deg) (of_bits binary64 0x4046_
 
 -- document 02, K7: "Snapping an angle now answers either a direction or that there is none, the latter where the angle
 -- or its value in degrees isn't finite."
-unfoldable pub from_angle : Float → SnappedDirection
+unfoldable pub from_angle : Float → Option RasterDirection4
 unfolding in_degrees nearest_to
-from_angle angle = cond (finite angle && finite (in_degrees angle)) (Found (nearest_to (in_degrees angle))) Nothing
-
-abbrev pub is_found : SnappedDirection → Bool
-is_found (Found d) = true
-is_found Nothing = false
+from_angle angle = cond (finite angle && finite (in_degrees angle)) (Some (nearest_to (in_degrees angle))) None
 
 -- "the angle or its value in degrees isn't finite"
 abbrev pub NoDirection : Float → Type 0
 NoDirection angle = (finite angle ≡ false) ⊎ (finite (in_degrees angle) ≡ false)
 
 -- ".. and give 7 in its usual place"
-abbrev pub angle_refusal : SnappedDirection → ℕ
-angle_refusal s = cond (is_found s) 0 7
+abbrev pub angle_refusal : Option RasterDirection4 → ℕ
+angle_refusal s = cond (is_some s) 0 7
 
 -- the last angle with a direction, and the next double (theorems of proofs/LastAngle.antt)
 unfoldable pub last_angle : Float
@@ -95,7 +89,7 @@ found :
     ∷ 0x7f91_df46_a252_9d38
     ∷ 0xff91_df46_a252_9d38
     ∷ [])
-    ≡ map Found (Horizontal ∷ DownRight ∷ DownLeft ∷ Horizontal ∷ Vertical ∷ DownRight ∷ DownLeft ∷ [])
+    ≡ map Some (Horizontal ∷ DownRight ∷ DownLeft ∷ Horizontal ∷ Vertical ∷ DownRight ∷ DownLeft ∷ [])
 unfolding from_angle of_bits mul rem lt add div
 found = refl
 
@@ -110,7 +104,7 @@ not_found :
     ∷ 0xfff0_0000_0000_0000
     ∷ 0x7ff8_0000_0000_0000
     ∷ [])
-    ≡ replicate 7 Nothing
+    ≡ replicate 7 None
 unfolding from_angle of_bits mul rem lt add div
 not_found = refl
 
@@ -122,7 +116,7 @@ angle_of DownRight = of_bits binary64 0x3fe8_0000_0000_0000
 angle_of Vertical = of_bits binary64 0x3ff8_0000_0000_0000
 angle_of DownLeft = of_bits binary64 0x4002_0000_0000_0000
 
-pub snaps : (d : RasterDirection4) → from_angle (angle_of d) ≡ Found d
+pub snaps : (d : RasterDirection4) → from_angle (angle_of d) ≡ Some d
 unfolding from_angle of_bits mul rem lt add div
 snaps Horizontal = refl
 snaps DownRight = refl

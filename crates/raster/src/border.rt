@@ -6,7 +6,7 @@ ghost use Rattle.raster.specs.Border.{border_code, border_value, border_from, is
 ghost use Rattle.raster.specs.Border.{border_map, constant, modℤ, nearer, reflected};
 
 // What stands outside a line.
-#[derive(Clone, Copy)]
+#[derive(Clone, Copy, Debug, PartialEq, Eq)]
 pub enum LineBorderMode {
     // The nearer end of the line.
     Replicate,
@@ -19,7 +19,7 @@ pub enum LineBorderMode {
 }
 
 impl LineBorderMode {
-    // The border's number in a record.
+    // The border's number in a record. No `From`: a border is a number and a value.
     pub fn code(self) -> u8
         ensures { result ≡ border_code self }
     {
@@ -43,7 +43,7 @@ impl LineBorderMode {
         }
     }
 
-    // The border of a number and a value. A number that is no border's stands for Constant.
+    // The border of a number and a value; a number that is no border's stands for Constant. No `TryFrom`: it never fails.
     pub fn from_code(code: u8, value: u8) -> Self
         ensures { result ≡ border_from code value }
     {
@@ -64,14 +64,14 @@ impl LineBorderMode {
     }
 }
 
-// Where a sample comes from: a place of the line, or a value outside it.
-#[derive(Clone, Copy)]
+// Where a sample comes from: a place of the line, or a value outside it. No `Result`: neither is a failure.
+#[derive(Clone, Copy, Debug, PartialEq, Eq)]
 pub enum BorderSample {
     Inside(usize),
     Outside(u8),
 }
 
-// The place u - half, if it is on the line, or the nearer end.
+// The place u - half, if it is on the line, or the nearer end. Three branches, as the definition has them.
 fn nearer_end(u: usize, half: usize, length: usize) -> usize
     requires { 0 < length }
     ensures { result ≡ nearer length (sub_ℕ u half) }
@@ -96,7 +96,7 @@ fn remainder(a: usize, modulus: usize) -> usize
     a % modulus
 }
 
-// (u - half) mod modulus, also where u - half is negative.
+// (u - half) mod modulus, also where u - half is negative: std's is of a signed number, and divides.
 fn rem_euclid(u: usize, half: usize, modulus: usize) -> usize
     requires { 0 < modulus }
     ensures { result ≡ modℤ (sub_ℕ u half) modulus }
@@ -160,6 +160,7 @@ fn constant_sample(u: usize, half: usize, length: usize, value: u8) -> BorderSam
 }
 
 // Where the sample at the place u - half of a line comes from.
+#[tactic(auto, unfolding(crate::specs::Border::border_map))]
 pub fn border_index(u: usize, half: usize, length: usize, border: LineBorderMode) -> BorderSample
     requires { (0 < length) × (length ≤ max_side) }
     ensures { result ≡ border_map border length (sub_ℕ u half) }
@@ -167,8 +168,7 @@ pub fn border_index(u: usize, half: usize, length: usize, border: LineBorderMode
     match border {
         LineBorderMode::Replicate => BorderSample::Inside(nearer_end(u, half, length)),
         LineBorderMode::Constant(value) => constant_sample(u, half, length, value),
-        LineBorderMode::Reflect | LineBorderMode::Wrap => {
-            BorderSample::Inside(periodic_place(u, half, length, border.code() == 3))
-        }
+        LineBorderMode::Reflect => BorderSample::Inside(periodic_place(u, half, length, false)),
+        LineBorderMode::Wrap => BorderSample::Inside(periodic_place(u, half, length, true)),
     }
 }

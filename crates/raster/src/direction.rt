@@ -2,9 +2,9 @@
 ghost use Rattle.std.specs.Prelude.{◌≡◌, ◌/◌, ◌%◌, T};
 ghost use Rattle.std.specs.Float.Ieee.Positive.{positive, num, den};
 ghost use Rattle.raster.specs.Direction.{step_of, direction_index, direction_from, signed_rest, half_turn, nearest, nearest_to};
-ghost use Rattle.raster.specs.Direction.{from_angle, is_found};
+ghost use Rattle.raster.specs.Direction.{from_angle};
 
-#[derive(Clone, Copy)]
+#[derive(Clone, Copy, Debug, PartialEq, Eq)]
 pub enum RasterDirection4 {
     Horizontal,
     DownRight,
@@ -13,17 +13,10 @@ pub enum RasterDirection4 {
 }
 
 // Columns and rows from one place of a line to the next.
-#[derive(Clone, Copy)]
+#[derive(Clone, Copy, Debug, PartialEq, Eq)]
 pub struct RasterStep {
     pub dx: i64,
     pub dy: i64,
-}
-
-// The direction nearest to an angle, or that the angle has none.
-#[derive(Clone, Copy)]
-pub enum SnappedDirection {
-    Found(RasterDirection4),
-    Nothing,
 }
 
 // The rest of x's whole part by 180. From 2^53 on a double is an even whole number, so its half is one too.
@@ -56,7 +49,7 @@ fn rest_of_size(x: f64) -> f64
 fn rest_of(degrees: f64) -> f64
     ensures { result ≡ signed_rest degrees }
 {
-    if !floats::is_finite(degrees) {
+    if !degrees.is_finite() {
         return 0.0 / 0.0;
     }
     if degrees == 0.0 {
@@ -105,18 +98,6 @@ fn nearest_to(degrees: f64) -> RasterDirection4
     nearest_direction(half_turn(degrees) / 45.0)
 }
 
-impl SnappedDirection {
-    pub fn is_found(self) -> bool
-        ensures { result ≡ is_found self }
-    {
-        if let SnappedDirection::Found(_) = self {
-            true
-        } else {
-            false
-        }
-    }
-}
-
 impl RasterDirection4 {
     pub fn step(self) -> RasterStep
         ensures { result ≡ step_of self }
@@ -141,7 +122,7 @@ impl RasterDirection4 {
         }
     }
 
-    // The direction of a number of a record, 0 to 3.
+    // The direction of a number of a record, 0 to 3; of any other the last: no `TryFrom`, it never fails.
     pub fn from_index(index: u8) -> Self
         ensures { result ≡ direction_from index }
     {
@@ -153,14 +134,14 @@ impl RasterDirection4 {
         }
     }
 
-    // Degrees are finite only where the angle is.
-    pub fn from_angle(theta_radians: f64) -> SnappedDirection
+    // The direction nearest to an angle; none where its degrees are not finite, which they are only where the angle is.
+    pub fn from_angle(theta_radians: f64) -> Option<RasterDirection4>
         ensures { result ≡ from_angle theta_radians }
     {
         let degrees = theta_radians * 57.29577951308232;
-        if floats::is_finite(degrees) {
-            return SnappedDirection::Found(nearest_to(degrees));
+        if degrees.is_finite() {
+            return Some(nearest_to(degrees));
         }
-        SnappedDirection::Nothing
+        None
     }
 }

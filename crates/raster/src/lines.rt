@@ -3,10 +3,9 @@ ghost use Rattle.std.specs.Prelude.{◌≡◌, ◌≤◌, ◌<◌, ◌^◌};
 ghost use Rattle.raster.specs.Lines.{Sides, line_count, start_col, start_row, length_from, scan_line_at, place_step};
 
 use crate::direction::RasterDirection4;
-use numbers::min_usize;
 
 // A line's first pixel and the number of its pixels.
-#[derive(Clone, Copy)]
+#[derive(Clone, Copy, Debug, PartialEq, Eq)]
 pub struct ScanLine {
     pub col: usize,
     pub row: usize,
@@ -61,9 +60,9 @@ fn length_from(
 {
     match direction {
         RasterDirection4::Horizontal => width - col,
-        RasterDirection4::DownRight => min_usize(width - col, height - row),
+        RasterDirection4::DownRight => (width - col).min(height - row),
         RasterDirection4::Vertical => height - row,
-        RasterDirection4::DownLeft => min_usize(col + 1, height - row),
+        RasterDirection4::DownLeft => (col + 1).min(height - row),
     }
 }
 

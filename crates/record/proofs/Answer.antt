@@ -16,22 +16,20 @@ use Rattle.record.specs.Fields.{decoded, encoded, back_to_back, record_at, legal
 use Rattle.record.specs.Record.{filter_from, record_of, fields_of, checked, record_fields, read_fields, read_record}
 use Rattle.record.specs.Record.{to_write, write_number, write_bytes, Wrote}
 use Rattle.record.specs.declared.fields.Fields.{Fields}
-use Rattle.record.specs.declared.FieldsAnswer.{FieldsAnswer}
-use Rattle.record.specs.declared.FieldsAnswer.TheVariants.{Legal, Broken}
-use Rattle.record.specs.declared.NamedFilter.TheVariants.{Known, Unknown}
 use Rattle.record.specs.declared.RecordFilter.{RecordFilter}
 use Rattle.record.specs.declared.Record.{Record}
-use Rattle.record.specs.declared.ReadAnswer.TheVariants as answer
 use Rattle.record.proofs.Legal.{angle_finite, sound}
 use Rattle.record.proofs.Doubles.{not_finite_bits}
+use Rattle.std.specs.Prelude.{Option, None, Some}
+use Rattle.image.specs.Call.{Decision, accepts, refuses, number_of, decided}
 
 -- ---- checked fields
 
 module _ (k : RecordFilter) where
-  pub checked_legal : (f : Fields) → legal k f ≡ true → checked k f ≡ Legal f
+  pub checked_legal : (f : Fields) → legal k f ≡ true → checked k f ≡ Some f
   checked_legal f h = rw h
 
-  pub checked_broken : (f : Fields) → legal k f ≡ false → checked k f ≡ Broken
+  pub checked_broken : (f : Fields) → legal k f ≡ false → checked k f ≡ None
   checked_broken f h = rw h
 
   module _ (r : Record) (q : ℕ) where
@@ -50,24 +48,16 @@ module _ (k : RecordFilter) where
 -- ---- reading
 
 module _ (f : Fields) {k : RecordFilter} where
-  pub fields_legal : filter_from f ≡ Known k → legal k f ≡ true → read_fields f ≡ answer.Record (record_of k f)
+  pub fields_legal : filter_from f ≡ Some k → legal k f ≡ true → read_fields f ≡ accepts (record_of k f)
   unfolding read_fields
   fields_legal e h = rw (e, h)
-
-  pub fields_broken : filter_from f ≡ Known k → legal k f ≡ false → read_fields f ≡ answer.Refused 13
-  unfolding read_fields
-  fields_broken e h = rw (e, h)
-
-pub fields_unknown : (f : Fields) → filter_from f ≡ Unknown → read_fields f ≡ answer.Refused 13
-unfolding read_fields
-fields_unknown f e = rw e
 
 module _ (xs : List ℕ) where
   pub read_whole : length xs ≡ 32 → read_record xs ≡ read_fields (decoded xs)
   unfolding read_record
   read_whole l = rw l
 
-  pub read_short : (length xs ≡ 32 → ⊥) → read_record xs ≡ answer.Refused 13
+  pub read_short : (length xs ≡ 32 → ⊥) → read_record xs ≡ refuses 13
   unfolding read_record
   read_short n = rw (ne_eqb (length xs) 32 n)
 
@@ -96,53 +86,46 @@ stored_whole f old l =
     ∙ ap (λ (k : ℕ). encoded f ++ drop k old) (sym l)
     ∙ ap (λ (ys : List ℕ). encoded f ++ ys) (drop-length old)
 
-module _ (r : Record) (old new : List ℕ) where
-  pub wrote_legal : (f : Fields) → length old ≡ 32 → record_fields r ≡ Legal f → new ≡ encoded f → Wrote r old new 0
-  unfolding to_write
-  wrote_legal f l e h = record { answers = rw (l, e); bytes = rw (l, e) h }
+-- the number of what is answered
+number-is : (z : Option Fields) → number_of (decided {R = Unit {0}} (write_number z) tt) ≡ write_number z
+number-is (Some f) = refl
+number-is None = refl
 
-  pub wrote_broken : length old ≡ 32 → record_fields r ≡ Broken → new ≡ old → Wrote r old new 13
-  unfolding to_write
-  wrote_broken l e h = record { answers = rw (l, e); bytes = rw (l, e) h }
-
-  pub wrote_short : (length old ≡ 32 → ⊥) → new ≡ old → Wrote r old new 13
-  unfolding to_write
-  wrote_short n h = record { answers = rw (ne_eqb (length old) 32 n); bytes = rw (ne_eqb (length old) 32 n) h }
-
+module _ (r : Record) (old new : List ℕ) {answer : Decision (Unit {0})} where
   -- what was written into 32 bytes is what the record gives, whatever stood there
   module _ (l : length old ≡ 32) where
-    pub wrote_number : (n : ℕ) → Wrote r old new n → n ≡ write_number (record_fields r)
+    pub wrote_number : Wrote r old new answer → number_of answer ≡ write_number (record_fields r)
     unfolding to_write
-    wrote_number n w = let a = w.answers in rw l at a
+    wrote_number w = let a = w.answers in ap number_of (rw l at a) ∙ number-is (record_fields r)
 
-    pub wrote_bytes : Wrote r old new 0 → new ≡ write_bytes (record_fields r) []
+    pub wrote_bytes : answer ≡ accepts tt → Wrote r old new answer → new ≡ write_bytes (record_fields r) []
     unfolding to_write
-    wrote_bytes w = go (record_fields r) (wrote_number 0 w) (let b = w.bytes in rw l at b)
+    wrote_bytes done w = go (record_fields r) (sym (ap number_of done) ∙ wrote_number w) (let b = w.bytes in rw l at b)
       where
-        go : (z : FieldsAnswer) → 0 ≡ write_number z → new ≡ write_bytes z old → new ≡ write_bytes z []
-        go (Legal f) e b = b
-        go Broken e b = absurd (omega (arith, e))
+        go : (z : Option Fields) → 0 ≡ write_number z → new ≡ write_bytes z old → new ≡ write_bytes z []
+        go (Some f) e b = b
+        go None e b = absurd (omega (arith, e))
 
 -- 32 bytes, or none
 pub record_bytes_most : (r : Record) → length (write_bytes (record_fields r) []) ≤ 32
 record_bytes_most r = go (record_fields r)
   where
-    go : (z : FieldsAnswer) → length (write_bytes z []) ≤ 32
-    go (Legal f) = le_of_eq (encoded_length f)
-    go Broken = lit≤ tt
+    go : (z : Option Fields) → length (write_bytes z []) ≤ 32
+    go (Some f) = le_of_eq (encoded_length f)
+    go None = lit≤ tt
 
 -- all 32 of a record that can be written
 pub record_bytes : (r : Record) → write_number (record_fields r) ≡ 0 → length (write_bytes (record_fields r) []) ≡ 32
 record_bytes r = go (record_fields r)
   where
-    go : (z : FieldsAnswer) → write_number z ≡ 0 → length (write_bytes z []) ≡ 32
-    go (Legal f) w = encoded_length f
-    go Broken w = absurd (omega (arith, w))
+    go : (z : Option Fields) → write_number z ≡ 0 → length (write_bytes z []) ≡ 32
+    go (Some f) w = encoded_length f
+    go None w = absurd (omega (arith, w))
 
 -- a refusal leaves the slice as it was
-pub refused_kept : (r : Record) (old new : List ℕ) (number : ℕ) → Wrote r old new number → (number ≡ 0 → ⊥) → new ≡ old
-refused_kept r old new number w some = go (to_write r old) w.answers w.bytes
+pub refused_kept : (r : Record) (old new : List ℕ) (number : ℕ) → Wrote r old new (refuses number) → new ≡ old
+refused_kept r old new number w = go (to_write r old) w.answers w.bytes
   where
-    go : (z : FieldsAnswer) → number ≡ write_number z → new ≡ write_bytes z old → new ≡ old
-    go (Legal f) e b = absurd (some e)
-    go Broken e b = b
+    go : (z : Option Fields) → refuses number ≡ decided {R = Unit {0}} (write_number z) tt → new ≡ write_bytes z old → new ≡ old
+    go (Some f) e b = cc
+    go None e b = b

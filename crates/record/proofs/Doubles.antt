@@ -12,7 +12,13 @@ use lib.Ieee.Fits.{div-fits}
 use lib.Ieee.Scale.{finite}
 use Rattle.floats.specs.Factor.{scale, factor_of}
 use Rattle.record.specs.Record.{is_factor}
+use Rattle.std.specs.Float.{float_is_finite}
 use Rattle.floats.proofs.Factor.{factor_value}
+use Rattle.floats.proofs.Finite.{is_finite_is}
+
+-- what std's test says
+pub tested : (x : Float) {b v : Bool} → b ≡ float_is_finite x → b ≡ v → finite x ≡ v
+tested x e h = sym (is_finite_is x) ∙ sym e ∙ h
 
 pub finite_number : (x : Float) → finite x ≡ true → is_nan x ≡ false
 unfolding is_nan

@@ -3,26 +3,23 @@ use mathlib.Core.Path.{◌≡◌, refl}
 use mathlib.Core.Bool.{Bool, true, false}
 use mathlib.Core.List.{List, [], ◌∷◌, ◌++◌, map}
 use Prim.Native.Nat.{ℕ}
-use native.Mathlib.Omega.{arith}
 use lib.IntN.{pos}
 use lib.ListN.{replicate, set, take}
 use lib.Seq.{sets}
 use lib.Ieee.{Float, fin, binary64, of_bits, to_bits, mul, div, of_int, lt}
 use Rattle.floats.specs.Factor.{quantized, factor_of}
-use Rattle.floats.specs.declared.Quantized.TheVariants.{Q16, Refused}
 use Rattle.raster.specs.Direction.{from_angle}
 use Rattle.raster.specs.declared.direction.RasterDirection4.TheVariants.{Horizontal}
 use Rattle.raster.specs.declared.border.LineBorderMode.TheVariants.{Replicate}
 use Rattle.record.specs.Bytes.{little_endian, bytes_of}
-use Rattle.record.specs.Conditions.{read_number}
 use Rattle.record.specs.Fields.{decoded, encoded, legal}
 use Rattle.record.specs.Record.{record_of, is_factor, filter_q, record_fields, read_record, to_write}
 use Rattle.record.specs.Record.{write_number, write_bytes, Wrote, is_job}
 use Rattle.record.specs.declared.RecordFilter.TheVariants.{Restoration, Unsharp}
 use Rattle.record.specs.declared.Record.{Record}
-use Rattle.record.specs.declared.ReadAnswer.{ReadAnswer}
-use Rattle.record.specs.declared.ReadAnswer.TheVariants as answer
 use Rattle.record.proofs.Answer.{refused_kept}
+use Rattle.std.specs.Prelude.{None, Some}
+use Rattle.image.specs.Call.{Decision, accepts, refuses, number_of}
 
 -- ---- width 5, height 1, restoration, length 3, one iteration, q 65,536
 
@@ -48,7 +45,7 @@ job : Record
 unfolding job_at
 job = job_at (fin false 0 (pos 0))
 
-reads : read_record bytes ≡ answer.Record job
+reads : read_record bytes ≡ accepts job
 unfolding bytes job read_record decoded legal record_of little_endian of_bits factor_of div of_int lt from_angle mul
 reads = refl
 
@@ -63,9 +60,9 @@ is_a_job = refl
 
 -- ---- both sides of each limit: bytes of the record above changed
 
-is_read : ReadAnswer → Bool
-is_read (answer.Record r) = true
-is_read (answer.Refused n) = false
+is_read : Decision Record → Bool
+is_read (accepts r) = true
+is_read (refuses n) = false
 
 accepted : List ℕ → Bool
 accepted xs = is_read (read_record xs)
@@ -155,7 +152,7 @@ angles =
     ∷ []
 
 angles-read :
-    map (λ (bits : ℕ). read_number (read_record (sets bytes 16 (bytes_of 8 bits)))) angles ≡ 0 ∷ 0 ∷ replicate 4 13
+    map (λ (bits : ℕ). number_of (read_record (sets bytes 16 (bytes_of 8 bits)))) angles ≡ 0 ∷ 0 ∷ replicate 4 13
 unfolding angles bytes bytes_of read_record decoded legal record_of little_endian of_bits lt from_angle mul
 angles-read = refl
 
@@ -166,35 +163,35 @@ unfolding angles job_at to_write record_fields is_factor quantized factor_of div
 angles-written = refl
 
 -- a byte too few, a byte too many
-short : read_record (take 31 bytes) ≡ answer.Refused 13
+short : read_record (take 31 bytes) ≡ refuses 13
 unfolding read_record bytes
 short = refl
 
-long : read_record (bytes ++ 0 ∷ []) ≡ answer.Refused 13
+long : read_record (bytes ++ 0 ∷ []) ≡ refuses 13
 unfolding read_record bytes
 long = refl
 
 -- ---- factors: one that is no q / 65,536 (0.1), -0.0, and 1.5 as a relaxation and as a gain
 
-inexact : filter_q (Restoration (of_bits binary64 0x3fb9_9999_9999_999a)) ≡ Refused
+inexact : filter_q (Restoration (of_bits binary64 0x3fb9_9999_9999_999a)) ≡ None
 unfolding filter_q is_factor quantized factor_of div of_int to_bits of_bits
 inexact = refl
 
-minus_zero : filter_q (Restoration (of_bits binary64 0x8000_0000_0000_0000)) ≡ Refused
+minus_zero : filter_q (Restoration (of_bits binary64 0x8000_0000_0000_0000)) ≡ None
 unfolding filter_q is_factor quantized factor_of div of_int to_bits of_bits
 minus_zero = refl
 
-too_large : filter_q (Restoration (of_bits binary64 0x3ff8_0000_0000_0000)) ≡ Refused
+too_large : filter_q (Restoration (of_bits binary64 0x3ff8_0000_0000_0000)) ≡ None
 unfolding filter_q is_factor quantized factor_of div of_int to_bits of_bits
 too_large = refl
 
-gain : filter_q (Unsharp (of_bits binary64 0x3ff8_0000_0000_0000)) ≡ Q16 98304
+gain : filter_q (Unsharp (of_bits binary64 0x3ff8_0000_0000_0000)) ≡ Some 98304
 unfolding filter_q is_factor quantized factor_of div of_int to_bits of_bits
 gain = refl
 
 -- ---- document 02, K4: a refusal that has put the first field, where another width stood, breaks the contract
 
 first_field_first : (r : Record) (old : List ℕ) → (sets old 0 (bytes_of 2 r.width) ≡ old → ⊥)
-    → Wrote r old (sets old 0 (bytes_of 2 r.width)) 13 → ⊥
+    → Wrote r old (sets old 0 (bytes_of 2 r.width)) (refuses 13) → ⊥
 first_field_first r old other w =
-    other (refused_kept r old (sets old 0 (bytes_of 2 r.width)) 13 w (λ z. omega (arith, z)))
+    other (refused_kept r old (sets old 0 (bytes_of 2 r.width)) 13 w)

@@ -1,6 +1,6 @@
 -- What the limits say of fields (`sound`, `length_most`), and which filter fields name (`Named`).
-use mathlib.Core.Path.{◌≡◌, sym, ap, ◌∙◌}
-use mathlib.Core.Bool.{Bool, true, false, ◌&&◌, false≢true, and-eq-true_iff}
+use mathlib.Core.Path.{◌≡◌, ap}
+use mathlib.Core.Bool.{Bool, true, false, ◌&&◌, and-eq-true_iff}
 use mathlib.Core.Logic.{inl, ⊎_elim}
 use Prim.Native.Nat.{ℕ, ◌+◌, ◌*◌, ◌%◌, ◌≤◌, max}
 use native.Mathlib.Omega.{arith}
@@ -8,10 +8,10 @@ use borrow.Author.Tests.{leb-true, eqb-true, eqb-false, ne_eqb}
 use lib.Dec.{leb, eqb}
 use lib.Ieee.{binary64, of_bits}
 use lib.Ieee.Scale.{finite}
-use Rattle.numbers.proofs.Test.{by_test, or_cases, false_of_not}
+use Rattle.numbers.proofs.Test.{by_test, or_cases}
 use Rattle.floats.specs.Factor.{scale, max_relaxation, max_gain, factor_of}
 use Rattle.raster.specs.Border.{is_border}
-use Rattle.raster.specs.Direction.{is_found, snaps}
+use Rattle.raster.specs.Direction.{snaps}
 use Rattle.raster.specs.declared.border.LineBorderMode.TheVariants.{Replicate}
 use Rattle.raster.specs.declared.direction.RasterDirection4.TheVariants.{Horizontal}
 use Rattle.raster.proofs.Codes.{is_border_lem}
@@ -21,9 +21,10 @@ use Rattle.record.specs.Fields.{side_legal, head_legal, length_legal, angle_lega
 use Rattle.record.specs.Fields.{line_legal, iterated_legal, unmeasured, filter_legal, legal}
 use Rattle.record.specs.Record.{filter_from}
 use Rattle.record.specs.declared.fields.Fields.{Fields}
-use Rattle.record.specs.declared.NamedFilter.TheVariants.{Known, Unknown}
 use Rattle.record.specs.declared.RecordFilter.{RecordFilter}
 use Rattle.record.specs.declared.RecordFilter.TheVariants.{WholeJob, Restoration, Unsharp, Binomial}
+use Rattle.std.specs.Prelude.{Some, is_some}
+use Rattle.std.proofs.lemmas.Option.{none-some}
 
 -- ---- the bits 0 are a finite double's, and an angle's that has a direction
 
@@ -32,7 +33,7 @@ unfolding of_bits
 zero_finite b e = rw e
 
 zero_angle : (b : ℕ) → b ≡ 0 → angle_legal b ≡ true
-zero_angle b e = rw e (ap is_found (snaps Horizontal))
+zero_angle b e = rw e (ap is_some (snaps Horizontal))
 
 -- ---- angles and estimates are finite
 
@@ -40,15 +41,12 @@ pub angle_finite : (b : ℕ) → angle_legal b ≡ true → finite (of_bits bina
 angle_finite b = found_finite (of_bits binary64 b)
 
 pub angle_refused : (b : ℕ) → finite (of_bits binary64 b) ≡ false → angle_legal b ≡ false
-angle_refused b h = ap is_found ((nothing_iff (of_bits binary64 b)).1 (inl h))
+angle_refused b h = ap is_some ((nothing_iff (of_bits binary64 b)).1 (inl h))
 
 pub estimate_finite : (b : ℕ) → estimate_legal b ≡ true → finite (of_bits binary64 b) ≡ true
 estimate_finite b h =
     ⊎_elim (λ z. zero_finite b (eqb-true b 0 z)) (λ p. ((and-eq-true_iff (finite (of_bits binary64 b)) _).0 p).0)
     (or_cases (eqb b 0) _ h)
-
-pub estimate_refused : (b : ℕ) → finite (of_bits binary64 b) ≡ false → estimate_legal b ≡ false
-estimate_refused b h = false_of_not (estimate_legal b) (λ e. false≢true (sym h ∙ estimate_finite b e))
 
 -- ---- legal fields
 
@@ -189,20 +187,17 @@ pub data Named (f : Fields) (k : RecordFilter) : Type 0 where
   unsharp : k ≡ Unsharp (factor_of f.q) → f.head.filter ≡ 2 → Named f k
   binomial : k ≡ Binomial → f.head.filter ≡ 3 → Named f k
 
-pub filter_named : (f : Fields) (k : RecordFilter) → Named f k → filter_from f ≡ Known k
+pub filter_named : (f : Fields) (k : RecordFilter) → Named f k → filter_from f ≡ Some k
 unfolding filter_from
 filter_named f k (whole_job e n z) = rw (e, n, z)
 filter_named f k (restoration e n z) = rw (e, n, ne_eqb f.blur_length 0 z)
 filter_named f k (unsharp e n) = rw (e, n)
 filter_named f k (binomial e n) = rw (e, n)
 
-same_filter : {k l : RecordFilter} → Known k ≡ Known l → l ≡ k
+same_filter : {k l : RecordFilter} → Some k ≡ Some l → l ≡ k
 same_filter e = cc
 
-never_known : {k : RecordFilter} → Unknown ≡ Known k → ⊥
-never_known e = let z : ◌≡◌ {A = ℕ} 0 1 = cc in omega arith
-
-pub named : (f : Fields) (k : RecordFilter) → filter_from f ≡ Known k → Named f k
+pub named : (f : Fields) (k : RecordFilter) → filter_from f ≡ Some k → Named f k
 unfolding filter_from
 named f k e =
     by_test (eqb f.head.filter 1)
@@ -214,4 +209,4 @@ named f k e =
     by_test (eqb f.head.filter 2) (λ b. unsharp (same_filter (rw (a, b) at e)) (eqb-true _ _ b))
     (λ b.
     by_test (eqb f.head.filter 3) (λ c. binomial (same_filter (rw (a, b, c) at e)) (eqb-true _ _ c))
-    (λ c. absurd (never_known (rw (a, b, c) at e)))))
+    (λ c. absurd (none-some k (rw (a, b, c) at e)))))

@@ -1,13 +1,18 @@
 -- Laws of little-endian numbers, over the number of bytes: a number's bound, that bytes and number determine each
--- other, one byte more in front.
-use mathlib.Core.Path.{◌≡◌, refl}
-use mathlib.Core.List.{List, [], ◌∷◌}
-use Prim.Native.Nat.{ℕ, zero, suc, ◌+◌, ◌-◌, ◌*◌, ◌/◌, ◌%◌, ◌^◌, ◌≤◌, ◌<◌, suc-le-suc}
-use native.Mathlib.Nat.{zero-lt-suc, pow-succ', pow-le-pow_right}
+-- other, and that std's bytes of a number are these.
+use mathlib.Core.Path.{◌≡◌, refl, sym, ap, ap₂, ◌∙◌}
+use mathlib.Core.List.{List, [], ◌∷◌, ◌++◌, append_assoc}
+use Prim.Native.Nat.{ℕ, zero, suc, ◌+◌, ◌*◌, ◌/◌, ◌%◌, ◌^◌, ◌≤◌, ◌<◌, suc-le-suc}
+use native.Mathlib.Nat.{zero-lt-suc, pow-succ', mul_comm, div-div-eq-div-mul}
 use native.Mathlib.Omega.{arith}
-use lib.Dec.{lit≤}
-use lib.ListN.{length, get_or, set}
-use lib.Seq.{drop-cons, sets}
+use borrow.Author.Tests.{ltb-true, ltb-false}
+use lib.Dec.{ltb}
+use lib.ListN.{length, get_or, get_or-eq_default, take, drop, length-take}
+use lib.Seq.{sets, sets-eq, drop-drop}
+use Rattle.numbers.proofs.List.{get_d_part, length_part}
+use Rattle.numbers.proofs.Test.{by_test}
+use Rattle.std.specs.Int.{Width, w16, w32, w64, byte_len, byte_at, bytes_low_first, to_le_bytes, from_le_bytes}
+use Rattle.std.proofs.lemmas.Nat.{le_bytes_2, le_bytes_4, le_bytes_8}
 use Rattle.record.specs.Bytes.{little_endian, number_at, bytes_of}
 
 -- what holds of every list of bytes
@@ -40,42 +45,45 @@ bytes_number (b ∷ bs) h =
     let high : (b + 256 * little_endian bs) / 256 ≡ little_endian bs = omega arith in
     rw (low, high, bytes_number bs (rest b bs h))
 
--- a byte in front of n others
-number_more : (xs : List ℕ) (a n : ℕ) → a < length xs
-    → number_at xs a (suc n) ≡ get_or xs a 0 + 256 * number_at xs (suc a) n
-unfolding little_endian
-number_more xs a n h = rw (drop-cons xs a 0 h)
+-- ---- std's bytes of a number
 
--- ---- the loop that reads: of `count` bytes all but the first `left` are passed, and v is their number
-
-module _ (xs : List ℕ) (at count left v : ℕ) (some : 0 < left) (within : left ≤ count)
-    (room : at + count ≤ length xs) (b : get_or xs (at + (left - 1)) 0 < 256) where
-  one_more : count - (left - 1) ≡ suc (count - left)
-  one_more = omega arith
-
-  next : at + left ≡ suc (at + (left - 1))
-  next = omega arith
-
-  pub number_turn : v ≡ number_at xs (at + left) (count - left) → v < 256 ^ (count - left)
-      → (v * 256 + get_or xs (at + (left - 1)) 0 ≡ number_at xs (at + (left - 1)) (count - (left - 1)))
-      × (v * 256 + get_or xs (at + (left - 1)) 0 < 256 ^ (count - (left - 1)))
-  number_turn e h =
-      let e' : v ≡ number_at xs (suc (at + (left - 1))) (count - left) = rw next at e in
-      rw one_more (
-        omega (arith, number_more xs (at + (left - 1)) (count - left) (omega arith)),
-        omega (arith, pow-succ' 256 (count - left)),
-      )
-
-pub within_word : (n : ℕ) → n ≤ 8 → 256 ^ n ≤ 2 ^ 64
-within_word n h = pow-le-pow_right (lit≤ tt) h
-
--- ---- the loop that writes: a turn stores the lowest byte of what is left
-
-pub put_turn : (xs : List ℕ) (at count done v : ℕ) → done < count
-    → sets (set xs (at + done) (v % 256)) (at + (done + 1)) (bytes_of (count - (done + 1)) (v / 256))
-    ≡ sets xs (at + done) (bytes_of (count - done) v)
+-- the lowest k bytes of n from byte i on
+low-first : (i k n : ℕ) → bytes_low_first i k n ≡ bytes_of k (n / 256 ^ i)
 unfolding bytes_of
-put_turn xs at count done v h =
-    let e : count - done ≡ suc (count - (done + 1)) = omega arith in
-    let n : at + (done + 1) ≡ suc (at + done) = omega arith in
-    rw (e, n)
+low-first i zero n = refl
+low-first i (suc k) n =
+    ap₂ ◌∷◌ (byte i) (low-first (suc i) k n ∙ ap (bytes_of k) next)
+  where
+    byte : (i : ℕ) → byte_at i n ≡ n / 256 ^ i % 256
+    byte zero = omega arith
+    byte (suc i) = refl
+
+    next : n / 256 ^ suc i ≡ n / 256 ^ i / 256
+    next = rw (pow-succ' 256 i, mul_comm 256 (256 ^ i)) (sym (div-div-eq-div-mul n (256 ^ i) 256))
+
+pub to_le : (w : Width) (n : ℕ) → to_le_bytes w n ≡ bytes_of (byte_len w) n
+to_le w n = low-first 0 (byte_len w) n ∙ ap (bytes_of (byte_len w)) (omega arith)
+
+from-le : (w : Width) {n : ℕ} {bs : List ℕ} → n < 256 ^ byte_len w → to_le_bytes w n ≡ bs → n ≡ little_endian bs
+from-le w {n} small e = sym (number_bytes (byte_len w) n small) ∙ ap little_endian (sym (to_le w n) ∙ e)
+
+-- what std reads from a part is the number there
+module _ (xs : List ℕ) (bytes : (i : ℕ) → get_or xs i 0 < 256) (a : ℕ) where
+  part_small : (k i : ℕ) → get_or (take k (drop a xs)) i 0 < 256
+  part_small k i =
+      by_test (ltb i k) (λ t. rw (get_d_part a k xs i 0 (ltb-true i k t)) (bytes (a + i)))
+      (λ t. let l = ltb-false i k t in let m = length-take k (drop a xs) in rw (get_or-eq_default (take k (drop a xs)) 0 {n = i} (omega arith)) (zero-lt-suc 255))
+
+  pub read_2 : {n : ℕ} → a + 2 ≤ length xs → n < 2 ^ 16 → n ≡ from_le_bytes w16 (take 2 (drop a xs)) → n ≡ number_at xs a 2
+  read_2 {n} room small e = from-le w16 small (le_bytes_2 (take 2 (drop a xs)) n (length_part a 2 xs room) (part_small 2) e)
+
+  pub read_4 : {n : ℕ} → a + 4 ≤ length xs → n < 2 ^ 32 → n ≡ from_le_bytes w32 (take 4 (drop a xs)) → n ≡ number_at xs a 4
+  read_4 {n} room small e = from-le w32 small (le_bytes_4 (take 4 (drop a xs)) n (length_part a 4 xs room) (part_small 4) e)
+
+  pub read_8 : {n : ℕ} → a + 8 ≤ length xs → n < 2 ^ 64 → n ≡ from_le_bytes w64 (take 8 (drop a xs)) → n ≡ number_at xs a 8
+  read_8 {n} room small e = from-le w64 small (le_bytes_8 (take 8 (drop a xs)) n (length_part a 8 xs room) (part_small 8) e)
+
+-- bytes that are copied into a part
+pub put_part : (xs part : List ℕ) (a n : ℕ) {m : ℕ} {new : List ℕ} → a + n ≤ length xs → m ≡ n → length part ≡ n
+    → new ≡ part → take a xs ++ (new ++ drop m (drop a xs)) ≡ sets xs a part
+put_part xs part a n room d l e = rw (e, d, ← l, drop-drop (length part) a xs) (sym (append_assoc (take a xs) part _) ∙ sym (sets-eq part xs a (omega arith)))

@@ -15,7 +15,7 @@ use lib.Ieee.Fits.{up_pos}
 use lib.Ieee.Bits.{is_true, of_bits-to_bits, of_bits-fits}
 use lib.Ieee.Positive.{positive, positive-finite}
 use lib.Ieee.Scale.{finite}
-use Rattle.raster.specs.Direction.{direction_index, from_angle, is_found}
+use Rattle.raster.specs.Direction.{direction_index, from_angle}
 use Rattle.raster.specs.declared.direction.RasterDirection4.{RasterDirection4}
 use Rattle.raster.specs.Border.{is_border}
 use Rattle.raster.proofs.Codes.{border_from_lem, index_most}
@@ -28,10 +28,11 @@ use Rattle.record.specs.declared.fields.Fields.{Fields}
 use Rattle.record.specs.declared.RecordFilter.{RecordFilter}
 use Rattle.record.specs.declared.RecordFilter.TheVariants.{WholeJob, Restoration, Unsharp, Binomial}
 use Rattle.record.specs.declared.Record.{Record}
-use Rattle.record.specs.declared.ReadAnswer.TheVariants as answer
 use Rattle.record.proofs.Answer.{checked_legal}
 use Rattle.record.proofs.Legal.{both, sound, length_most, named}
 use Rattle.record.proofs.RoundTrip.{Reads, filter_from_lem, fields_record, read_is}
+use Rattle.std.specs.Prelude.{is_some}
+use Rattle.image.specs.Call.{accepts}
 
 -- ---- the limits of what is used
 
@@ -155,7 +156,7 @@ module _ (f : Fields) (k : RecordFilter) (h : Reads f k) where
       let z = rw e at s in
       ap write_number (fields_record f k (omega (arith, z.1)) (omega (arith, z.2)) h)
 
-module _ (xs : List ℕ) (r : Record) (reads : read_record xs ≡ answer.Record r) where
+module _ (xs : List ℕ) (r : Record) (reads : read_record xs ≡ accepts r) where
   pub read_length : r.blur_length ≤ 2 * max_side + 1
   unfolding record_of
   read_length =
@@ -163,11 +164,11 @@ module _ (xs : List ℕ) (r : Record) (reads : read_record xs ≡ answer.Record 
       subst (λ (r : Record). r.blur_length ≤ 2 * max_side + 1) p.same
       (length_most (decoded xs) r.filter p.reads.within)
 
-  pub read_angle : is_found (from_angle r.angle) ≡ true
+  pub read_angle : is_some (from_angle r.angle) ≡ true
   unfolding record_of
   read_angle =
       let p = read_is xs r reads in
-      subst (λ (r : Record). is_found (from_angle r.angle) ≡ true) p.same
+      subst (λ (r : Record). is_some (from_angle r.angle) ≡ true) p.same
       (sound (decoded xs) r.filter p.reads.within).angle
 
   -- a line filter's record with what was used

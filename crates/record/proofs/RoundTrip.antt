@@ -2,7 +2,7 @@
 -- reads as the same record (`read_written`), what reads is written as the same bytes (`write_read`), and bytes that
 -- read as one record are the same (`read_unique`).
 use mathlib.Core.Path.{◌≡◌, refl, sym, ap, ◌∙◌, subst}
-use mathlib.Core.Bool.{true, false}
+use mathlib.Core.Bool.{true}
 use mathlib.Core.List.{List}
 use Prim.Native.Nat.{ℕ, ◌*◌, ◌^◌, ◌≤◌, ◌<◌}
 use native.Mathlib.Omega.{arith}
@@ -13,8 +13,6 @@ use lib.Ieee.{Float, binary64, to_bits, fits}
 use lib.Ieee.Bits.{of_bits-to_bits, to_bits-lt}
 use Rattle.numbers.proofs.Test.{by_test}
 use Rattle.floats.specs.Factor.{scale, quantized, factor_of}
-use Rattle.floats.specs.declared.Quantized.{Quantized}
-use Rattle.floats.specs.declared.Quantized.TheVariants.{Q16, Refused}
 use Rattle.floats.proofs.Factor.{quantized_factor}
 use Rattle.raster.proofs.Codes.{from_border, border_from_lem, from_index, index_from}
 use Rattle.record.specs.Fields.{decoded, encoded, legal}
@@ -23,50 +21,39 @@ use Rattle.record.specs.Record.{with_q}
 use Rattle.record.specs.Record.{record_fields, read_as, read_fields, read_record, to_write, write_number, write_bytes}
 use Rattle.record.specs.Record.{Wrote}
 use Rattle.record.specs.declared.fields.Fields.{Fields}
-use Rattle.record.specs.declared.FieldsAnswer.{FieldsAnswer}
-use Rattle.record.specs.declared.FieldsAnswer.TheVariants.{Legal, Broken}
-use Rattle.record.specs.declared.NamedFilter.{NamedFilter}
-use Rattle.record.specs.declared.NamedFilter.TheVariants.{Known, Unknown}
 use Rattle.record.specs.declared.RecordFilter.{RecordFilter}
 use Rattle.record.specs.declared.RecordFilter.TheVariants.{WholeJob, Restoration, Unsharp, Binomial}
 use Rattle.record.specs.declared.Record.{Record}
-use Rattle.record.specs.declared.ReadAnswer.TheVariants as answer
 use Rattle.record.proofs.Answer.{checked_legal, fields_legal, read_whole, encoded_length}
 use Rattle.record.proofs.Legal.{FilterSound, sound, Named, whole_job, restoration, unsharp, binomial, named}
 use Rattle.record.proofs.Legal.{filter_named, angle_finite}
 use Rattle.record.proofs.Doubles.{bits_back, factor_finite, factor_same}
 use Rattle.record.proofs.LittleEndian.{Bytes}
 use Rattle.record.proofs.Coding.{InBytes, decoded_encoded, decoded_in_bytes, encoded_decoded}
+use Rattle.std.specs.Prelude.{Option, None, Some}
+use Rattle.std.proofs.lemmas.Option.{none-some, cond_some}
+use Rattle.image.proofs.Call.{accepts_not_refuses}
+use Rattle.image.specs.Call.{Decision, accepts, decided}
 
 -- ---- fields and record
 
 -- q and the factor q / 65,536 determine each other
 pub factor_exact : (limit q : ℕ) → limit ≤ 255 → q ≤ limit * scale
-    → exact_q (quantized limit (factor_of q)) (factor_of q) ≡ Q16 q
+    → exact_q (quantized limit (factor_of q)) (factor_of q) ≡ Some q
 unfolding is_factor
 factor_exact limit q l h =
     let bits = to_bits binary64 (factor_of q) in
     rw (quantized_factor limit q l h, factor_finite q (omega arith), eq-eqb bits bits refl)
 
-never_exact : (q : ℕ) → Refused ≡ Q16 q → ⊥
-never_exact q e = let z : ◌≡◌ {A = ℕ} 0 1 = cc in omega arith
-
-pub exact_factor : (z : Quantized) (q : ℕ) (x : Float) → T (fits binary64 x) → exact_q z x ≡ Q16 q → factor_of q ≡ x
-exact_factor Refused q x t e = absurd (never_exact q e)
-exact_factor (Q16 p) q x t e = by_test (is_factor p x) yes no
-  where
-    yes : is_factor p x ≡ true → factor_of q ≡ x
-    yes h =
-        let same : Q16 p ≡ Q16 q = rw h at e in
-        let n : p ≡ q = cc in
-        ap factor_of (sym n) ∙ factor_same p x t h
-
-    no : is_factor p x ≡ false → factor_of q ≡ x
-    no h = absurd (never_exact q (rw h at e))
+pub exact_factor : (z : Option ℕ) (q : ℕ) (x : Float) → T (fits binary64 x) → exact_q z x ≡ Some q → factor_of q ≡ x
+exact_factor None q x t e = absurd (none-some q e)
+exact_factor (Some p) q x t e =
+    let c = cond_some (is_factor p x) p q e in
+    ap factor_of (sym c.1) ∙ factor_same p x t c.0
 
 -- a named filter has the fields' number and q
 pub filter_from_lem : (f : Fields) (k : RecordFilter) → Named f k → FilterSound k f
-    → (filter_code k ≡ f.head.filter) × (filter_q k ≡ Q16 f.q)
+    → (filter_code k ≡ f.head.filter) × (filter_q k ≡ Some f.q)
 unfolding filter_q
 filter_from_lem f k (whole_job e n z) s = let t = rw e at s in rw (e, n) (refl, factor_exact 1 f.q (lit≤ tt) t.1)
 filter_from_lem f k (restoration e n z) s = let t = rw e at s in rw (e, n) (refl, factor_exact 1 f.q (lit≤ tt) t.1)
@@ -75,12 +62,12 @@ filter_from_lem f k (binomial e n) s = let t = rw e at s in rw (e, n, t.0) (refl
 
 -- fields that read as a record
 pub record Reads (f : Fields) (k : RecordFilter) : Type 0 where
-  pub named : filter_from f ≡ Known k
+  pub named : filter_from f ≡ Some k
   pub within : legal k f ≡ true
 
 -- .. are those of their record
 pub fields_record : (f : Fields) (k : RecordFilter) → f.angle < 256 ^ 8 → f.estimate < 256 ^ 8 → Reads f k
-    → record_fields (record_of k f) ≡ Legal f
+    → record_fields (record_of k f) ≡ Some f
 unfolding record_fields record_of fields_of
 fields_record f k a b h =
     let s = sound f k h.within in
@@ -113,7 +100,7 @@ pub record Held (r : Record) : Type 0 where
   pub angle : T (fits binary64 r.angle)
   pub estimate : T (fits binary64 r.estimate)
 
-from_filter : (k : RecordFilter) (f : Fields) → FactorFits k → filter_q k ≡ Q16 f.q → f.head.filter ≡ filter_code k
+from_filter : (k : RecordFilter) (f : Fields) → FactorFits k → filter_q k ≡ Some f.q → f.head.filter ≡ filter_code k
     → FilterSound k f → Named f k
 unfolding filter_q
 from_filter (WholeJob x) f t e n s = whole_job (ap WholeJob (sym (exact_factor (quantized 1 x) f.q x t e))) n s.0
@@ -150,7 +137,7 @@ fields_in_bytes r q h l = record {
   estimate = to_bits-lt binary64 r.estimate h.estimate;
 }
 
-fields_read : (r : Record) (q : ℕ) → Held r → filter_q r.filter ≡ Q16 q → legal r.filter (fields_of r q) ≡ true
+fields_read : (r : Record) (q : ℕ) → Held r → filter_q r.filter ≡ Some q → legal r.filter (fields_of r q) ≡ true
     → Reads (fields_of r q) r.filter
 unfolding fields_of
 fields_read r q h e l =
@@ -160,9 +147,6 @@ fields_read r q h e l =
       within = l;
     }
 
-never_legal : (f : Fields) → Broken ≡ Legal f → ⊥
-never_legal f e = let z : ◌≡◌ {A = ℕ} 0 1 = cc in omega arith
-
 -- what the fields of a record are
 pub record FieldsOf (r : Record) (f : Fields) : Type 0 where
   pub same : record_of r.filter f ≡ r
@@ -170,49 +154,43 @@ pub record FieldsOf (r : Record) (f : Fields) : Type 0 where
   pub in_bytes : InBytes f
 
 -- a held record that breaks no limit is that of its fields
-pub record_fields_lem : (r : Record) (f : Fields) → Held r → record_fields r ≡ Legal f → FieldsOf r f
+pub record_fields_lem : (r : Record) (f : Fields) → Held r → record_fields r ≡ Some f → FieldsOf r f
 unfolding record_fields
 record_fields_lem r f h = go (filter_q r.filter) refl
   where
-    found : (q : ℕ) → filter_q r.filter ≡ Q16 q → checked r.filter (fields_of r q) ≡ Legal f → FieldsOf r f
+    found : (q : ℕ) → filter_q r.filter ≡ Some q → checked r.filter (fields_of r q) ≡ Some f → FieldsOf r f
     found q e c =
-        by_test (legal r.filter (fields_of r q))
-        (λ l.
-        let same : Legal (fields_of r q) ≡ Legal f = rw l at c in
-        let g : fields_of r q ≡ f = cc in
-        rw (← g)
-        (record { same = from_fields r q h; reads = fields_read r q h e l; in_bytes = fields_in_bytes r q h l }))
-        (λ l. absurd (never_legal f (rw l at c)))
+        let l = cond_some (legal r.filter (fields_of r q)) (fields_of r q) f c in
+        rw (← l.1)
+        (record { same = from_fields r q h; reads = fields_read r q h e l.0; in_bytes = fields_in_bytes r q h l.0 })
 
-    go : (z : Quantized) → filter_q r.filter ≡ z → with_q r z ≡ Legal f → FieldsOf r f
-    go (Q16 q) e c = found q e c
-    go Refused e c = absurd (never_legal f c)
+    go : (z : Option ℕ) → filter_q r.filter ≡ z → with_q r z ≡ Some f → FieldsOf r f
+    go (Some q) e c = found q e c
+    go None e c = absurd (none-some f c)
 
 -- ---- reading and writing
 
-never_read : (r : Record) → answer.Refused 13 ≡ answer.Record r → ⊥
-never_read r e = let z : ◌≡◌ {A = ℕ} 0 1 = cc in omega arith
-
-to_write-legal : (r : Record) (old : List ℕ) (f : Fields) → to_write r old ≡ Legal f → record_fields r ≡ Legal f
+to_write-legal : (r : Record) (old : List ℕ) (f : Fields) → to_write r old ≡ Some f → record_fields r ≡ Some f
 unfolding to_write
-to_write-legal r old f e = by_test (eqb (length old) 32) (λ l. rw l at e) (λ l. absurd (never_legal f (rw l at e)))
+to_write-legal r old f e = by_test (eqb (length old) 32) (λ l. rw l at e) (λ l. absurd (none-some f (rw l at e)))
 
 -- what is written reads as the same record
-pub read_written : (r : Record) (old new : List ℕ) → Held r → Wrote r old new 0 → read_record new ≡ answer.Record r
+pub read_written : (r : Record) (old new : List ℕ) → Held r → Wrote r old new (accepts tt)
+    → read_record new ≡ accepts r
 read_written r old new h w = go (to_write r old) refl w.answers w.bytes
   where
-    legally : (f : Fields) → record_fields r ≡ Legal f → read_record (encoded f) ≡ answer.Record r
+    legally : (f : Fields) → record_fields r ≡ Some f → read_record (encoded f) ≡ accepts r
     legally f e =
         let p = record_fields_lem r f h e in
         read_whole (encoded f) (encoded_length f)
         ∙ ap read_fields (decoded_encoded f p.in_bytes)
         ∙ fields_legal f p.reads.named p.reads.within
-        ∙ ap answer.Record p.same
+        ∙ ap accepts p.same
 
-    go : (z : FieldsAnswer) → to_write r old ≡ z → 0 ≡ write_number z → new ≡ write_bytes z old
-        → read_record new ≡ answer.Record r
-    go (Legal f) e a b = rw b (legally f (to_write-legal r old f e))
-    go Broken e a b = absurd (omega (arith, a))
+    go : (z : Option Fields) → to_write r old ≡ z → accepts tt ≡ decided {R = Unit {0}} (write_number z) tt → new ≡ write_bytes z old
+        → read_record new ≡ accepts r
+    go (Some f) e a b = rw b (legally f (to_write-legal r old f e))
+    go None e a b = cc
 
 -- what reads as a record is 32 bytes of fields that do
 pub record ReadFrom (xs : List ℕ) (r : Record) : Type 0 where
@@ -221,39 +199,39 @@ pub record ReadFrom (xs : List ℕ) (r : Record) : Type 0 where
   pub same : record_of r.filter (decoded xs) ≡ r
 
 module _ (f : Fields) (r : Record) where
-  known_is : (k : RecordFilter) → filter_from f ≡ Known k → read_as (Known k) f ≡ answer.Record r
+  known_is : (k : RecordFilter) → filter_from f ≡ Some k → read_as (Some k) f ≡ accepts r
       → Reads f r.filter × (record_of r.filter f ≡ r)
   unfolding record_of
   known_is k e d =
       by_test (legal k f)
       (λ l.
-      let same : answer.Record (record_of k f) ≡ answer.Record r = rw l at d in
+      let same : accepts (record_of k f) ≡ accepts r = rw l at d in
       let g : record_of k f ≡ r = cc in
       let n : k ≡ r.filter = ap (λ (r : Record). r.filter) g in
       subst (λ (k : RecordFilter). Reads f k × (record_of k f ≡ r)) n (record { named = e; within = l }, g))
-      (λ l. absurd (never_read r (rw l at d)))
+      (λ l. absurd (accepts_not_refuses (sym (rw l at d))))
 
-  fields-is : read_fields f ≡ answer.Record r → Reads f r.filter × (record_of r.filter f ≡ r)
+  fields-is : read_fields f ≡ accepts r → Reads f r.filter × (record_of r.filter f ≡ r)
   unfolding read_fields
   fields-is = go (filter_from f) refl
     where
-      go : (z : NamedFilter) → filter_from f ≡ z → read_as z f ≡ answer.Record r
+      go : (z : Option RecordFilter) → filter_from f ≡ z → read_as z f ≡ accepts r
           → Reads f r.filter × (record_of r.filter f ≡ r)
-      go (Known k) e d = known_is k e d
-      go Unknown e d = absurd (never_read r d)
+      go (Some k) e d = known_is k e d
+      go None e d = absurd (accepts_not_refuses (sym d))
 
-pub read_is : (xs : List ℕ) (r : Record) → read_record xs ≡ answer.Record r → ReadFrom xs r
+pub read_is : (xs : List ℕ) (r : Record) → read_record xs ≡ accepts r → ReadFrom xs r
 unfolding read_record
 read_is xs r e =
     by_test (eqb (length xs) 32)
     (λ t.
     let p = fields-is (decoded xs) r (rw t at e) in
     record { whole = eqb-true (length xs) 32 t; reads = p.0; same = p.1 })
-    (λ t. absurd (never_read r (rw t at e)))
+    (λ t. absurd (accepts_not_refuses (sym (rw t at e))))
 
 -- the fields that were read are those of the record
-read_fields_lem : (xs : List ℕ) (r : Record) → Bytes xs → read_record xs ≡ answer.Record r
-    → (record_fields r ≡ Legal (decoded xs)) × (encoded (decoded xs) ≡ xs)
+read_fields_lem : (xs : List ℕ) (r : Record) → Bytes xs → read_record xs ≡ accepts r
+    → (record_fields r ≡ Some (decoded xs)) × (encoded (decoded xs) ≡ xs)
 read_fields_lem xs r b e =
     let p = read_is xs r e in
     let w = decoded_in_bytes xs p.whole b in (
@@ -262,16 +240,17 @@ read_fields_lem xs r b e =
     )
 
 -- what reads is written as the same bytes
-pub write_read : (xs : List ℕ) (r : Record) → Bytes xs → read_record xs ≡ answer.Record r
-    → (old new : List ℕ) (n : ℕ) → length old ≡ 32 → Wrote r old new n → (n ≡ 0) × (new ≡ xs)
+pub write_read : (xs : List ℕ) (r : Record) → Bytes xs → read_record xs ≡ accepts r
+    → (old new : List ℕ) (answer : Decision (Unit {0})) → length old ≡ 32 → Wrote r old new answer
+    → (answer ≡ accepts tt) × (new ≡ xs)
 unfolding to_write
-write_read xs r b e old new n l w =
+write_read xs r b e old new answer l w =
     let p = read_fields_lem xs r b e in
     (rw (l, p.0) at w.answers, (rw (l, p.0) at w.bytes) ∙ p.1)
 
 -- bytes that read as one record are the same
-pub read_unique : (xs ys : List ℕ) (r : Record) → Bytes xs → Bytes ys → read_record xs ≡ answer.Record r
-    → read_record ys ≡ answer.Record r → xs ≡ ys
+pub read_unique : (xs ys : List ℕ) (r : Record) → Bytes xs → Bytes ys → read_record xs ≡ accepts r
+    → read_record ys ≡ accepts r → xs ≡ ys
 read_unique xs ys r b c e d =
     let p = read_fields_lem xs r b e in
     let q = read_fields_lem ys r c d in

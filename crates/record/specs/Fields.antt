@@ -1,12 +1,12 @@
 -- Document 01, "The 32-byte record": where each field stands, and its filter's limits.
-use Rattle.std.specs.Prelude.{Bool, ◌&&◌, ◌||◌, List, [], ◌∷◌, ◌++◌, ℕ, ◌*◌, ◌%◌, leb, eqb, get_or, take, drop}
+use Rattle.std.specs.Prelude.{Bool, ◌&&◌, ◌||◌, List, [], ◌∷◌, ◌++◌, ℕ, ◌*◌, ◌%◌, leb, eqb, get_or, take, drop, is_some}
 use Rattle.std.specs.Float.{binary64}
 use Rattle.std.specs.Float.Ieee.{of_bits, lt}
 use Rattle.std.specs.Float.Ieee.Scale.{finite}
 use Rattle.floats.specs.Factor.{scale, max_relaxation, max_gain}
 use Rattle.image.specs.Refusal.{max_side}
 use Rattle.raster.specs.Border.{is_border}
-use Rattle.raster.specs.Direction.{from_angle, is_found}
+use Rattle.raster.specs.Direction.{from_angle}
 use Rattle.line.specs.Kernel.{max_iterations, max_blur_length}
 use Rattle.record.specs.Bytes.{number_at, bytes_of}
 use Rattle.record.specs.declared.RecordFilter.{RecordFilter}
@@ -81,7 +81,7 @@ finite_bits bits = finite (of_bits binary64 bits)
 
 -- document 02, K7: an angle has a direction; with one that has none, a record gives 13
 abbrev pub angle_legal : ℕ → Bool
-angle_legal bits = is_found (from_angle (of_bits binary64 bits))
+angle_legal bits = is_some (from_angle (of_bits binary64 bits))
 
 -- an estimate is zero bits or positive and finite
 abbrev pub estimate_legal : ℕ → Bool

@@ -1,32 +1,21 @@
-// Little-endian numbers in a slice.
-ghost use Rattle.std.specs.Prelude.{◌≡◌, ◌+◌, ◌^◌, ◌≤◌, ◌<◌, length};
+// Numbers in a slice stand in as many bytes as their type has, the lowest first.
+ghost use Rattle.std.specs.Prelude.{◌≡◌, ◌+◌, ◌≤◌, length, take, drop};
 ghost use Rattle.std.proofs.lemmas.List.Edits.{sets};
-ghost use Rattle.record.specs.Bytes.{number_at, bytes_of};
 
-// The number in `count` bytes from `at` on.
-pub(crate) fn number_at(bytes: &[u8], at: usize, count: usize) -> u64
-    requires { (at + count ≤ length bytes.now) × (count ≤ 8) }
-    ensures { (result ≡ number_at bytes.now at count) × (result < 256 ^ count) }
+// The N bytes from `at` on.
+pub(crate) fn part<const N: usize>(bytes: &[u8], at: usize) -> [u8; N]
+    requires { at + N ≤ length bytes.now }
+    ensures { result ≡ take N (drop at bytes.now) }
 {
-    let mut value: u64 = 0;
-    let mut left = count;
-    while 0 < left {
-        left -= 1;
-        value = value * 256 + bytes[at + left] as u64;
-    }
-    value
+    let mut part = [0; N];
+    part.copy_from_slice(&bytes[at..at + N]);
+    part
 }
 
-// The lowest `count` bytes of a value, from `at` on.
-pub(crate) fn put_number(bytes: &mut [u8], at: usize, count: usize, value: u64)
-    requires { at + count ≤ length bytes.old }
-    ensures { bytes.new ≡ sets bytes.old at (bytes_of count value) }
+// Bytes from `at` on.
+pub(crate) fn put<const N: usize>(bytes: &mut [u8], at: usize, part: [u8; N])
+    requires { at + N ≤ length bytes.old }
+    ensures { bytes.new ≡ sets bytes.old at part.entry }
 {
-    let mut rest = value;
-    let mut done: usize = 0;
-    while done < count {
-        bytes[at + done] = (rest % 256) as u8;
-        rest = rest / 256;
-        done += 1;
-    }
+    bytes[at..at + N].copy_from_slice(&part);
 }

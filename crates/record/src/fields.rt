@@ -3,17 +3,17 @@ ghost use Rattle.std.specs.Prelude.{◌≡◌, length};
 ghost use Rattle.std.proofs.lemmas.List.Edits.{sets};
 ghost use Rattle.record.specs.Fields.{decoded_head, decoded, head_bytes, count_bytes, double_bytes, encoded};
 
-use crate::bytes::{number_at, put_number};
+use crate::bytes::{part, put};
 
 // What every record has, whatever its filter.
-#[derive(Clone, Copy)]
+#[derive(Clone, Copy, Debug, PartialEq, Eq)]
 pub(crate) struct Head {
     pub(crate) width: u16,
     pub(crate) height: u16,
     pub(crate) filter: u8,
 }
 
-#[derive(Clone, Copy)]
+#[derive(Clone, Copy, Debug, PartialEq, Eq)]
 pub(crate) struct Fields {
     pub(crate) head: Head,
     pub(crate) direction: u8,
@@ -32,8 +32,8 @@ pub(crate) fn head_in(bytes: &[u8]) -> Head
     ensures { result ≡ decoded_head bytes.now }
 {
     Head {
-        width: number_at(bytes, 0, 2) as u16,
-        height: number_at(bytes, 2, 2) as u16,
+        width: u16::from_le_bytes(part(bytes, 0)),
+        height: u16::from_le_bytes(part(bytes, 2)),
         filter: bytes[7],
     }
 }
@@ -48,53 +48,45 @@ pub(crate) fn fields_in(bytes: &[u8]) -> Fields
         direction: bytes[4],
         border: bytes[5],
         value: bytes[6],
-        blur_length: number_at(bytes, 8, 2) as u16,
-        iterations: number_at(bytes, 10, 2) as u16,
-        q: number_at(bytes, 12, 4) as u32,
-        angle: number_at(bytes, 16, 8),
-        estimate: number_at(bytes, 24, 8),
+        blur_length: u16::from_le_bytes(part(bytes, 8)),
+        iterations: u16::from_le_bytes(part(bytes, 10)),
+        q: u32::from_le_bytes(part(bytes, 12)),
+        angle: u64::from_le_bytes(part(bytes, 16)),
+        estimate: u64::from_le_bytes(part(bytes, 24)),
     }
 }
 
 // Width, height and the four single bytes.
-fn put_head(
-    width: u16,
-    height: u16,
-    direction: u8,
-    border: u8,
-    value: u8,
-    filter: u8,
-    bytes: &mut [u8],
-)
+fn put_head(fields: Fields, bytes: &mut [u8])
     requires { length bytes.old ≡ 32 }
-    ensures { bytes.new
-        ≡ sets bytes.old 0 (head_bytes width height direction border value filter) }
+    ensures { bytes.new ≡ sets bytes.old 0 (head_bytes fields.head.width fields.head.height
+        fields.direction fields.border fields.value fields.head.filter) }
 {
-    put_number(bytes, 0, 2, width as u64);
-    put_number(bytes, 2, 2, height as u64);
-    bytes[4] = direction;
-    bytes[5] = border;
-    bytes[6] = value;
-    bytes[7] = filter;
+    put(bytes, 0, fields.head.width.to_le_bytes());
+    put(bytes, 2, fields.head.height.to_le_bytes());
+    bytes[4] = fields.direction;
+    bytes[5] = fields.border;
+    bytes[6] = fields.value;
+    bytes[7] = fields.head.filter;
 }
 
 // Blur length, iterations and q.
-fn put_counts(blur_length: u16, iterations: u16, q: u32, bytes: &mut [u8])
+fn put_counts(fields: Fields, bytes: &mut [u8])
     requires { length bytes.old ≡ 32 }
-    ensures { bytes.new ≡ sets bytes.old 8 (count_bytes blur_length iterations q) }
+    ensures { bytes.new ≡ sets bytes.old 8 (count_bytes fields.blur_length fields.iterations fields.q) }
 {
-    put_number(bytes, 8, 2, blur_length as u64);
-    put_number(bytes, 10, 2, iterations as u64);
-    put_number(bytes, 12, 4, q as u64);
+    put(bytes, 8, fields.blur_length.to_le_bytes());
+    put(bytes, 10, fields.iterations.to_le_bytes());
+    put(bytes, 12, fields.q.to_le_bytes());
 }
 
 // Angle and estimate.
-fn put_doubles(angle: u64, estimate: u64, bytes: &mut [u8])
+fn put_doubles(fields: Fields, bytes: &mut [u8])
     requires { length bytes.old ≡ 32 }
-    ensures { bytes.new ≡ sets bytes.old 16 (double_bytes angle estimate) }
+    ensures { bytes.new ≡ sets bytes.old 16 (double_bytes fields.angle fields.estimate) }
 {
-    put_number(bytes, 16, 8, angle);
-    put_number(bytes, 24, 8, estimate);
+    put(bytes, 16, fields.angle.to_le_bytes());
+    put(bytes, 24, fields.estimate.to_le_bytes());
 }
 
 // Each field where it belongs.
@@ -102,15 +94,7 @@ pub(crate) fn put_fields(fields: Fields, bytes: &mut [u8])
     requires { length bytes.old ≡ 32 }
     ensures { bytes.new ≡ encoded fields }
 {
-    put_head(
-        fields.head.width,
-        fields.head.height,
-        fields.direction,
-        fields.border,
-        fields.value,
-        fields.head.filter,
-        bytes,
-    );
-    put_counts(fields.blur_length, fields.iterations, fields.q, bytes);
-    put_doubles(fields.angle, fields.estimate, bytes);
+    put_head(fields, bytes);
+    put_counts(fields, bytes);
+    put_doubles(fields, bytes);
 }

@@ -7,19 +7,20 @@ mod limits;
 
 ghost use Rattle.std.specs.Prelude.{◌≡◌, true};
 ghost use Rattle.std.specs.Float.Ieee.Scale.{finite};
+ghost use Rattle.image.specs.Call.{told};
 ghost use Rattle.record.specs.Fields.{legal};
 ghost use Rattle.record.specs.Record.{filter_code, used_filter, filter_from, record_of, read_fields};
 ghost use Rattle.record.specs.Record.{is_factor, exact_q, filter_q, fields_of, checked, record_fields};
 ghost use Rattle.record.specs.Record.{read_record, Wrote, is_job};
 
 use fields::{Fields, Head, fields_in, put_fields};
-use floats::Quantized;
+use image::Refusal;
 use limits::is_legal;
 use raster::border::LineBorderMode;
 use raster::direction::RasterDirection4;
 
 // A filter with its factor; the binomial has none.
-#[derive(Clone, Copy)]
+#[derive(Clone, Copy, Debug, PartialEq)]
 pub enum RecordFilter {
     // Restoration by what is measured in the picture; its record has length 0.
     WholeJob(f64),
@@ -34,8 +35,7 @@ impl RecordFilter {
         ensures { result ≡ filter_code self }
     {
         match self {
-            RecordFilter::WholeJob(_) => 1,
-            RecordFilter::Restoration(_) => 1,
+            RecordFilter::WholeJob(_) | RecordFilter::Restoration(_) => 1,
             RecordFilter::Unsharp(_) => 2,
             RecordFilter::Binomial => 3,
         }
@@ -47,14 +47,12 @@ impl RecordFilter {
     {
         match self {
             RecordFilter::WholeJob(relaxation) => RecordFilter::Restoration(relaxation),
-            RecordFilter::Restoration(relaxation) => RecordFilter::Restoration(relaxation),
-            RecordFilter::Unsharp(gain) => RecordFilter::Unsharp(gain),
-            RecordFilter::Binomial => RecordFilter::Binomial,
+            other => other,
         }
     }
 }
 
-#[derive(Clone, Copy)]
+#[derive(Clone, Copy, Debug, PartialEq)]
 pub struct Record {
     pub width: u16,
     pub height: u16,
@@ -67,42 +65,18 @@ pub struct Record {
     pub estimate: f64,
 }
 
-#[derive(Clone, Copy)]
-pub enum ReadAnswer {
-    Record(Record),
-    Refused(u8),
-}
-
-// A record's fields, or that they break its layout.
-#[derive(Clone, Copy)]
-enum FieldsAnswer {
-    Legal(Fields),
-    Broken,
-}
-
-// The filter that a record's fields name, or that its number is no filter's.
-#[derive(Clone, Copy)]
-enum NamedFilter {
-    Known(RecordFilter),
-    Unknown,
-}
-
-// Filter 1 of length 0 is the whole job.
-fn filter_from(fields: Fields) -> NamedFilter
+// The filter that the fields name, none for another number. Filter 1 of length 0 is the whole job. No `TryFrom`:
+// number, length and q make it together.
+fn filter_from(fields: Fields) -> Option<RecordFilter>
     ensures { result ≡ filter_from fields }
 {
-    let filter = fields.head.filter;
     let factor = floats::factor_of_q16(fields.q);
-    match filter {
-        1 => {
-            if fields.blur_length == 0 {
-                return NamedFilter::Known(RecordFilter::WholeJob(factor));
-            }
-            NamedFilter::Known(RecordFilter::Restoration(factor))
-        }
-        2 => NamedFilter::Known(RecordFilter::Unsharp(factor)),
-        3 => NamedFilter::Known(RecordFilter::Binomial),
-        _ => NamedFilter::Unknown,
+    match fields.head.filter {
+        1 if fields.blur_length == 0 => Some(RecordFilter::WholeJob(factor)),
+        1 => Some(RecordFilter::Restoration(factor)),
+        2 => Some(RecordFilter::Unsharp(factor)),
+        3 => Some(RecordFilter::Binomial),
+        _ => None,
     }
 }
 
@@ -124,52 +98,41 @@ fn record_of(filter: RecordFilter, fields: Fields) -> Record
 }
 
 // The record of fields that break no limit of the filter that they name.
-fn read_fields(fields: Fields) -> ReadAnswer
-    ensures { result ≡ read_fields fields }
+#[tactic(auto, unfolding(crate::specs::Record::read_fields))]
+fn read_fields(fields: Fields) -> Result<Record, Refusal>
+    ensures { told result ≡ read_fields fields }
 {
-    match filter_from(fields) {
-        NamedFilter::Known(filter) => {
-            if is_legal(filter, fields) {
-                return ReadAnswer::Record(record_of(filter, fields));
-            }
-            ReadAnswer::Refused(13)
-        }
-        NamedFilter::Unknown => ReadAnswer::Refused(13),
+    let filter = filter_from(fields).ok_or(Refusal::InvalidRecord)?;
+    if !is_legal(filter, fields) {
+        return Err(Refusal::InvalidRecord);
     }
+    Ok(record_of(filter, fields))
 }
 
 // Whether q / 65,536 is the factor, bit for bit: -0.0 would come back as 0.0.
 fn is_factor(q: u32, factor: f64) -> bool
     ensures { result ≡ is_factor q factor }
 {
-    if floats::is_finite(factor) {
-        return f64::to_bits(floats::factor_of_q16(q)) == f64::to_bits(factor);
-    }
-    false
+    factor.is_finite() && floats::factor_of_q16(q).to_bits() == factor.to_bits()
 }
 
-fn exact_q(quantized: Quantized, factor: f64) -> Quantized
+// q where it is the factor exactly.
+fn exact_q(quantized: Option<u32>, factor: f64) -> Option<u32>
     ensures { result ≡ exact_q quantized factor }
 {
-    match quantized {
-        Quantized::Q16(q) => {
-            if is_factor(q, factor) {
-                return Quantized::Q16(q);
-            }
-            Quantized::Refused
-        }
-        Quantized::Refused => Quantized::Refused,
-    }
+    quantized.filter(|q| is_factor(*q, factor))
 }
 
-fn filter_q(filter: RecordFilter) -> Quantized
+#[tactic(auto, unfolding(crate::specs::Record::filter_q))]
+fn filter_q(filter: RecordFilter) -> Option<u32>
     ensures { result ≡ filter_q filter }
 {
     match filter {
-        RecordFilter::WholeJob(factor) => exact_q(floats::quantize_relaxation(factor), factor),
-        RecordFilter::Restoration(factor) => exact_q(floats::quantize_relaxation(factor), factor),
+        RecordFilter::WholeJob(factor) | RecordFilter::Restoration(factor) => {
+            exact_q(floats::quantize_relaxation(factor), factor)
+        }
         RecordFilter::Unsharp(factor) => exact_q(floats::quantize_gain(factor), factor),
-        RecordFilter::Binomial => Quantized::Q16(0),
+        RecordFilter::Binomial => Some(0),
     }
 }
 
@@ -177,85 +140,78 @@ fn fields_of(record: Record, q: u32) -> Fields
     requires { (finite «record».angle ≡ true) × (finite «record».estimate ≡ true) }
     ensures { result ≡ fields_of «record» q }
 {
-    let direction = record.direction;
-    let border = record.border;
-    let filter = record.filter;
-    let head = Head {
-        width: record.width,
-        height: record.height,
-        filter: filter.code(),
-    };
     Fields {
-        head,
-        direction: direction.index(),
-        border: border.code(),
-        value: border.value(),
+        head: Head {
+            width: record.width,
+            height: record.height,
+            filter: record.filter.code(),
+        },
+        direction: record.direction.index(),
+        border: record.border.code(),
+        value: record.border.value(),
         blur_length: record.blur_length,
         iterations: record.iterations,
         q,
-        angle: f64::to_bits(record.angle),
-        estimate: f64::to_bits(record.estimate),
+        angle: record.angle.to_bits(),
+        estimate: record.estimate.to_bits(),
     }
 }
 
-fn checked_fields(record: Record, q: u32) -> FieldsAnswer
+// The fields where they break no limit.
+fn checked_fields(record: Record, q: u32) -> Option<Fields>
     ensures { result ≡ checked «record».filter (fields_of «record» q) }
 {
-    if floats::is_finite(record.angle) {
-        if floats::is_finite(record.estimate) {
-            let fields = fields_of(record, q);
-            let filter = record.filter;
-            if is_legal(filter, fields) {
-                return FieldsAnswer::Legal(fields);
-            }
-        }
+    if !record.angle.is_finite() || !record.estimate.is_finite() {
+        return None;
     }
-    FieldsAnswer::Broken
+    let fields = fields_of(record, q);
+    if is_legal(record.filter, fields) {
+        Some(fields)
+    } else {
+        None
+    }
 }
 
-fn record_fields(record: Record) -> FieldsAnswer
+// None where the record breaks its layout, or its factor is no q / 65,536.
+#[tactic(auto, unfolding(crate::specs::Record::record_fields))]
+fn record_fields(record: Record) -> Option<Fields>
     ensures { result ≡ record_fields «record» }
 {
-    let filter = record.filter;
-    match filter_q(filter) {
-        Quantized::Q16(q) => checked_fields(record, q),
-        Quantized::Refused => FieldsAnswer::Broken,
-    }
+    let q = filter_q(record.filter)?;
+    checked_fields(record, q)
 }
 
 // The record in 32 bytes.
-pub fn read(bytes: &[u8]) -> ReadAnswer
-    ensures { result ≡ read_record bytes.now }
+#[tactic(auto, unfolding(crate::specs::Record::read_record))]
+pub fn read(bytes: &[u8]) -> Result<Record, Refusal>
+    ensures { told result ≡ read_record bytes.now }
 {
-    if bytes.len() == 32 {
-        return read_fields(fields_in(bytes));
+    if bytes.len() != 32 {
+        return Err(Refusal::InvalidRecord);
     }
-    ReadAnswer::Refused(13)
+    read_fields(fields_in(bytes))
 }
 
 // The record's 32 bytes into a slice, each field where it belongs. A refusal changes nothing.
-pub fn write(record: Record, bytes: &mut [u8]) -> u8
-    ensures { Wrote «record» bytes.old bytes.new result }
+#[tactic(auto, unfolding(crate::specs::Record::to_write))]
+pub fn write(record: Record, bytes: &mut [u8]) -> Result<(), Refusal>
+    ensures { Wrote «record» bytes.old bytes.new (told result) }
 {
-    if bytes.len() == 32 {
-        match record_fields(record) {
-            FieldsAnswer::Legal(fields) => {
-                put_fields(fields, bytes);
-                return 0;
-            }
-            FieldsAnswer::Broken => return 13,
-        }
+    if bytes.len() != 32 {
+        return Err(Refusal::InvalidRecord);
     }
-    13
+    let fields = record_fields(record).ok_or(Refusal::InvalidRecord)?;
+    put_fields(fields, bytes);
+    Ok(())
 }
 
 // Whether the record is a job's: direction 0 and estimate bits 0.
+#[tactic(auto, unfolding(crate::specs::Record::is_job))]
 pub fn is_job(record: Record) -> bool
     ensures { result ≡ is_job «record» }
 {
-    if floats::is_finite(record.estimate) {
-        let direction = record.direction;
-        return (direction.index() == 0) & (f64::to_bits(record.estimate) == 0);
+    if !record.estimate.is_finite() {
+        return false;
     }
-    false
+    record.direction == RasterDirection4::Horizontal && record.estimate.to_bits() == 0
 }

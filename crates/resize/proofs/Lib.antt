@@ -4,7 +4,6 @@ pub mod Halvings
 pub mod Means
 pub mod Steps
 pub mod Refusals
-pub mod Answers
 pub mod Conditions
 pub mod Determined
 pub mod Same

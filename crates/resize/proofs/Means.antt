@@ -1,25 +1,24 @@
--- Rows of means are rows of the half-size picture: between two slices (`half_at_is`), and within one, where what is
--- still to be read is as it was (`mean_kept`, `still_there`, `more_within`, `half_from_is`).
+-- Rows of means are rows of the half-size picture (`half_at_is`), by eights (`eight_written`) and then one by one
+-- (`front_join`, `up_none`, `up_all`); within one slice, what is still to be read is as it was (`mean_kept`,
+-- `more_within`).
 use Prim.Native.Nat.{ℕ, ◌+◌, ◌-◌, ◌*◌, ◌/◌, ◌≤◌, ◌<◌}
-use native.Mathlib.Nat.{le_refl, add-sub_cancel_left, mul-le-mul_left, mul-le-mul_right, add_assoc}
 use native.Mathlib.Omega.{arith}
 use mathlib.Core.Bool.{false, ◌||◌}
 use mathlib.Core.List.{List}
 use mathlib.Core.Logic.{inl, inr}
-use mathlib.Core.Path.{◌≡◌, refl, sym, ap, ◌∙◌}
+use mathlib.Core.Path.{◌≡◌, refl, ap, ◌∙◌}
 use borrow.Author.Tests.{ltb-true, ltb-false}
 use lib.Dec.{ltb}
 use lib.ListN.{length, get_or, set, take, drop}
-use Rattle.numbers.specs.Written.{Written, Painted, front, part, pixels}
+use Rattle.numbers.specs.Written.{Written, front, part}
 use Rattle.numbers.proofs.Nat.{add_one_mul}
 use Rattle.numbers.proofs.Places.{front_iff, part_iff, part_none, part_after, part_last, part_join}
-use Rattle.numbers.proofs.Places.{pixels_iff, pixel_lt, pixels_row}
-use Rattle.numbers.proofs.Test.{by_test, false_of_not, or_ext}
-use Rattle.numbers.proofs.Written.{written_none, written_join, written_same, written_set, written_kept, painted_at}
+use Rattle.numbers.proofs.Test.{by_test, or_ext}
+use Rattle.numbers.proofs.Written.{written_none, written_join, written_same, written_set, written_kept}
 use Rattle.image.specs.Picture.{pixel}
 use Rattle.image.proofs.Rows.{row_part_at}
 use Rattle.resize.specs.Halving.{mean_of_four, halved}
-use Rattle.resize.specs.Rows.{half_at, mean_from, half_from}
+use Rattle.resize.specs.Rows.{half_at}
 
 -- two rows of the bytes, as parts of m and n places
 pub half_at_is : (xs : List ℕ) (w s y m n : ℕ) → m ≡ w → n ≡ w → (2 * y + 1) * s + w ≤ length xs → (x : ℕ) → x < w / 2
@@ -39,15 +38,14 @@ half_at_is xs w s y m n em en fits x h =
 
 -- ---- within one slice
 
--- places by how many are before them
-module _ (xs : List ℕ) (from stride to : ℕ) where
-  pub first_from : mean_from xs from stride ≡ half_from xs from stride to to
-  first_from =
-      let e : from ≡ from + 2 * (to - to) = omega arith in
-      ap (λ (i : ℕ). mean_from xs i stride) e
+-- the mean of two places from `at` on, and of the two a stride behind them
+abbrev pub mean_from : List ℕ → ℕ → ℕ → ℕ
+mean_from xs at stride =
+    mean_of_four (get_or xs at 0) (get_or xs (at + 1) 0) (get_or xs (at + stride) 0) (get_or xs (at + stride + 1) 0)
 
-  pub next_from : (k : ℕ) → mean_from xs (from + 2 * k) stride ≡ half_from xs from stride to (to + k)
-  next_from k = ap (λ (i : ℕ). mean_from xs (from + 2 * i) stride) (sym (add-sub_cancel_left to k))
+-- the mean for place j of a row that starts at `to`, from two rows of one list, a stride apart, the first at `from`
+abbrev pub half_from : List ℕ → ℕ → ℕ → ℕ → ℕ → ℕ
+half_from xs from stride to j = mean_from xs (from + 2 * (j - to)) stride
 
 -- what is read at or behind the places that are written is as it was
 pub mean_kept : {g : ℕ → ℕ} {old new : List ℕ} (to x at stride : ℕ) → to + x ≤ at → Written 0 (part to x) g old new
@@ -63,14 +61,7 @@ mean_kept {old = old} {new} to x at stride h W =
     kept : (j : ℕ) → to + x ≤ j → get_or new j 0 ≡ get_or old j 0
     kept j l = written_kept W j (part_after to x j l)
 
--- the mean at column x, read where the first x of a row are written at or before what they were read from
-pub still_there : {g : ℕ → ℕ} {old new : List ℕ} (from stride to x : ℕ) → to ≤ from
-    → Written 0 (part to x) g old new
-    → mean_from new (from + 2 * x) stride ≡ half_from old from stride to (to + x)
-still_there {old = old} from stride to x h W =
-    mean_kept to x (from + 2 * x) stride (omega arith) W ∙ next_from old from stride to x
-
--- k more of them
+-- k more places behind the first x of a row, written at or before what they are read from
 pub more_within : {old mid new : List ℕ} (from stride to x k n : ℕ) → to ≤ from → x + k ≡ n
     → Written 0 (part to x) (half_from old from stride to) old mid
     → Written 0 (part (to + x) k) (half_from mid (from + 2 * x) stride (to + x)) mid new
@@ -84,54 +75,7 @@ more_within {old} {mid} from stride to x k n h is W E =
     ∙ ap (λ (i : ℕ). mean_from old i stride) at)
     (part_join to x (to + x) k n refl is)
 
--- row y of a tight picture, w wide, once the rows before it are written: its two rows start where nothing is yet
-module _ (w y : ℕ) (old mid : List ℕ)
-    (P : Painted 0 (halved (pixel old w)) (w / 2) y (w / 2) old mid) where
-  pub rows_after : y * (w / 2) ≤ 2 * y * w
-  rows_after =
-      let a : y * (w / 2) ≤ y * w = mul-le-mul_left y (omega arith) in
-      let b : y * w ≤ 2 * y * w = mul-le-mul_right w (omega arith) in
-      omega arith
-
-  unread : (j : ℕ) → 2 * y * w ≤ j → get_or mid j 0 ≡ get_or old j 0
-  unread j l =
-      written_kept P j (false_of_not (pixels (w / 2) y (w / 2) j) λ e.
-      let above = ((pixels_iff (w / 2) y (w / 2) j).0 e).1 in
-      let a = pixel_lt (w / 2) y (w / 2) (y - 1) j e (omega arith) in
-      let one : y - 1 + 1 ≡ y = omega arith in
-      let b = rw one at (add_one_mul (y - 1) (w / 2)) in
-      omega (arith, rows_after))
-
-  pub half_from_is : (x : ℕ) → x < w / 2
-      → half_from mid (2 * y * w) w (y * (w / 2)) (y * (w / 2) + x) ≡ halved (pixel old w) x y
-  half_from_is x b =
-      let e : 2 * y * w + 2 * x + w ≡ (2 * y + 1) * w + 2 * x = omega (arith, add_one_mul (2 * y) w) in
-      rw (
-        add-sub_cancel_left (y * (w / 2)) x,
-        e,
-        unread (2 * y * w + 2 * x) (omega arith),
-        unread (2 * y * w + 2 * x + 1) (omega arith),
-        unread ((2 * y + 1) * w + 2 * x) (omega (arith, add_one_mul (2 * y) w)),
-        unread ((2 * y + 1) * w + 2 * x + 1) (omega (arith, add_one_mul (2 * y) w)),
-        add_assoc (2 * y * w) (2 * x) 1,
-        add_assoc ((2 * y + 1) * w) (2 * x) 1,
-      )
-
-  -- one more row
-  pub painted_within : {new : List ℕ} → 2 * y * w + w + w ≤ length mid
-      → Written 0 (part (y * (w / 2)) (w / 2)) (half_from mid (2 * y * w) w (y * (w / 2))) mid new
-      → Painted 0 (halved (pixel old w)) (w / 2) (y + 1) (w / 2) old new
-  painted_within fits W =
-      written_join P
-      (written_same W (λ j _. refl) λ j _ e.
-      let b = (part_iff (y * (w / 2)) (w / 2) j).0 e in
-      let x = j - y * (w / 2) in
-      let here : y * (w / 2) + x ≡ j = omega arith in
-      let at = half_from_is x (omega arith) in
-      rw here at (at ∙ painted_at (halved (pixel old w)) (w / 2) x y (omega arith)))
-      (pixels_row (w / 2) (w / 2) y (le_refl (w / 2)))
-
--- ---- eight at once
+-- ---- by eights
 
 -- stores at the places from x on, one after the other
 module _ (g : ℕ → ℕ) (old : List ℕ) (x : ℕ) where

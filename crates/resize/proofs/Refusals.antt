@@ -1,15 +1,15 @@
 -- When a call is given which number: 18, also by what is left of the sides (`count_left`), then the chain.
 use Prim.Native.Nat.{ℕ, ◌/◌, ◌≤◌, ◌<◌}
 use native.Mathlib.Omega.{arith}
-use mathlib.Core.Bool.{true, cond, or-true, or-false, ◌||◌}
-use mathlib.Core.Logic.{◌⊎◌, inl, inr, ⊎_elim}
+use mathlib.Core.Bool.{true, cond, or-false, ◌||◌}
+use mathlib.Core.Logic.{inl, inr, ⊎_elim}
 use mathlib.Core.Path.{◌≡◌, refl, ap, ◌∙◌}
-use borrow.Author.Tests.{lt-ltb, le-ltb, ltb-false, eq-eqb, ne_eqb, eqb-true}
+use borrow.Author.Tests.{lt-ltb, le-ltb, ltb-false, eq-eqb, eqb-true}
 use lib.Dec.{eqb}
-use Rattle.image.specs.Refusal.{layout_refusal, sized_refusal}
-use Rattle.image.proofs.Chain.{cond_zero, first_zero, first_own}
+use Rattle.image.specs.Refusal.{first_refusal, layout_refusal, sized_refusal, Laid}
+use Rattle.image.proofs.Chain.{cond_zero, first_zero}
 use Rattle.image.proofs.Pair.{laid_at, accepted_at}
-use Rattle.image.proofs.Refusal.{laid, accepted}
+use Rattle.image.proofs.Accepted.{laid, accepted}
 use Rattle.numbers.proofs.Test.{by_test, or_ext}
 use Rattle.resize.specs.Call.{
   max_halvings,
@@ -52,16 +52,6 @@ module _ (count w h : ℕ) where
           (λ t. starts (λ some. omega (arith, eqb-true (side_after count w) 0 t, some.0)))
           (λ t. starts (λ some. omega (arith, eqb-true (side_after count h) 0 t, some.1)))
 
-module _ (w h : ℕ) where
-  pub left_18 : (w ≡ 0) ⊎ (h ≡ 0) → left_refusal w h ≡ 18
-  unfolding left_refusal
-  left_18 (inl e) = simp (eq-eqb w 0 e)
-  left_18 (inr e) = simp (eq-eqb h 0 e, or-true)
-
-  pub left_0 : (w ≡ 0 → ⊥) → (h ≡ 0 → ⊥) → left_refusal w h ≡ 0
-  unfolding left_refusal
-  left_0 n m = simp (ne_eqb w 0 n, ne_eqb h 0 m)
-
 -- ---- the chain, with 18 in its place
 
 module _ (len width height stride dst_len dst_width dst_height dst_stride eighteen w h : ℕ) where
@@ -70,9 +60,6 @@ module _ (len width height stride dst_len dst_width dst_height dst_stride eighte
 
   abbrev resize : ℕ
   resize = resize_refusal len width height stride dst_len dst_width dst_height dst_stride eighteen w h
-
-  pub resize_starts : own ≡ 0 → (eighteen ≡ 0 → ⊥) → resize ≡ eighteen
-  resize_starts mine n = simp mine (first_own eighteen (sized_refusal dst_len dst_width dst_height dst_stride w h) n)
 
   pub resize_target : own ≡ 0 → eighteen ≡ 0 → resize ≡ sized_refusal dst_len dst_width dst_height dst_stride w h
   resize_target mine start = simp (mine, start)
@@ -114,29 +101,20 @@ module _ (len width height stride dst_len dst_width dst_height dst_stride : ℕ)
 -- ---- a number of halvings: 1 to 4 come first, 10 last
 
 module _ (len width height stride dst_len dst_width dst_height dst_stride count : ℕ) where
-  pub halving_own : (layout_refusal len width height stride ≡ 0 → ⊥)
-      → halving_refusal len width height stride dst_len dst_width dst_height dst_stride count
-      ≡ layout_refusal len width height stride
-  unfolding halving_refusal
-  halving_own = first_own (layout_refusal len width height stride) _
-
   module _ (mine : layout_refusal len width height stride ≡ 0) where
     pub halving_many : max_halvings < count
         → halving_refusal len width height stride dst_len dst_width dst_height dst_stride count ≡ 18
     unfolding halving_refusal
     halving_many l = simp (mine, count_many count width height l)
 
-    pub halving_starts : (count_refusal count width height ≡ 0 → ⊥)
-        → halving_refusal len width height stride dst_len dst_width dst_height dst_stride count
-        ≡ count_refusal count width height
-    unfolding halving_refusal
-    halving_starts = resize_starts len width height stride dst_len dst_width dst_height dst_stride _ _ _ mine
-
-    pub halving_target : count_refusal count width height ≡ 0
-        → halving_refusal len width height stride dst_len dst_width dst_height dst_stride count
-        ≡ sized_refusal dst_len dst_width dst_height dst_stride (side_after count width) (side_after count height)
-    unfolding halving_refusal
-    halving_target = resize_target len width height stride dst_len dst_width dst_height dst_stride _ _ _ mine
+  -- 18 by what is left
+  pub halving_left : {lw lh : ℕ} → Laid len width height stride → count ≤ max_halvings → lw ≡ side_after count width
+      → lh ≡ side_after count height
+      → halving_refusal len width height stride dst_len dst_width dst_height dst_stride count
+      ≡ first_refusal (left_refusal lw lh) (sized_refusal dst_len dst_width dst_height dst_stride lw lh)
+  unfolding halving_refusal
+  halving_left l few ew eh =
+      rw (ew, eh, accepted l, count_left count width height few l.width_pos l.height_pos) refl
 
   pub halving_taken : halving_refusal len width height stride dst_len dst_width dst_height dst_stride count ≡ 0
       → Resizes len width height stride dst_len dst_width dst_height dst_stride (count_refusal count width height)
@@ -150,14 +128,6 @@ module _ (len width height stride dst_len dst_width dst_height dst_stride count 
 
   abbrev whole : ℕ
   whole = halve_refusal len width height stride dst_len dst_width dst_height dst_stride count scratch_len
-
-  pub halve_own : (halving ≡ 0 → ⊥) → whole ≡ halving
-  unfolding halve_refusal
-  halve_own h = first_own halving _ h
-
-  pub halve_10 : halving ≡ 0 → scratch_len < halve_scratch width height → whole ≡ 10
-  unfolding halve_refusal
-  halve_10 e h = simp (e, lt-ltb scratch_len (halve_scratch width height) h)
 
   pub halve_0 : halving ≡ 0 → halve_scratch width height ≤ scratch_len → whole ≡ 0
   unfolding halve_refusal

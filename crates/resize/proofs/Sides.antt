@@ -23,6 +23,16 @@ unfolding side_after
 side_next zero side h = absurd (omega arith)
 side_next (suc n) side h = let e : suc n - 1 ≡ n = omega arith in rw e refl
 
+-- k of n done, and one more
+pub side_step : (n k side : ℕ) → k < n → side_after (n - (k + 1)) (side / 2) ≡ side_after (n - k) side
+side_step n k side h =
+    let e : n - (k + 1) ≡ n - k - 1 = omega arith in
+    rw e (sym (side_next (n - k) side (omega arith)))
+
+pub side_one : (side : ℕ) → side_after 1 side ≡ side / 2
+unfolding side_after
+side_one side = refl
+
 pub side_more : (n side : ℕ) → side_after (n + 1) side ≡ side_after n (side / 2)
 unfolding side_after
 side_more n side = rw (add-one n) refl

@@ -10,10 +10,22 @@ use Rattle.numbers.specs.Written.{Painted}
 use Rattle.numbers.proofs.Written.{painted_get, painted_same}
 use Rattle.image.specs.Picture.{pixel}
 use Rattle.image.specs.Refusal.{Laid}
-use Rattle.image.proofs.Refusal.{tight_laid, place_within}
+use Rattle.image.proofs.Accepted.{tight_laid, place_within}
 use Rattle.resize.specs.Halving.{halved, halved_times, side_after}
 use Rattle.resize.proofs.Halvings.{times_none, times_more, times_same}
 use Rattle.resize.proofs.Sides.{side_none, side_more, side_most}
+
+-- where a picture has room, one of half its size has, and one of a quarter beside it
+half_room : (w h : ℕ) → w / 2 * (h / 2) ≤ w * h
+half_room w h = mul-le-mul (omega arith) (omega arith)
+
+pub quarter_room : (w h : ℕ) → w / 2 / 2 * (h / 2 / 2) ≤ w * h
+quarter_room w h = le_trans (half_room (w / 2) (h / 2)) (half_room w h)
+
+pub rooms_beside : (w h : ℕ) → w / 2 / 2 * (h / 2 / 2) + w / 2 * (h / 2) ≤ w * h
+rooms_beside w h =
+    let twice : w / 2 * (h / 2 * 2) ≤ w * h = mul-le-mul (omega arith) (omega arith) in
+    omega (arith, half_room (w / 2) (h / 2))
 
 -- sides after `count` halvings, of which there is one and then n
 module _ (count n w h : ℕ) (is : count ≡ n + 1) where
@@ -29,12 +41,12 @@ module _ (count n w h : ℕ) (is : count ≡ n + 1) where
       → Laid len (side_after n (w / 2)) (side_after n (h / 2)) s
   last_laid l = rw (sides w, sides h) at l
 
-  -- the scratch has room for the half-size picture
-  pub half_laid : {len dst_len s : ℕ} → w ≤ 1024 → h ≤ 1024 → w * h ≤ len
+  -- a part of the scratch with room for the half-size picture
+  pub half_laid : {len dst_len s : ℕ} → w ≤ 1024 → h ≤ 1024 → w / 2 * (h / 2) ≤ len
       → Laid dst_len (side_after count w) (side_after count h) s → Laid len (w / 2) (h / 2) (w / 2)
   half_laid {len} mw mh fits l =
       tight_laid len (w / 2) (h / 2) (half_some w l.width_pos) (omega arith) (half_some h l.height_pos)
-      (omega arith) (le_trans (mul-le-mul (omega arith) (omega arith)) fits)
+      (omega arith) fits
 
   pub painted_more : (px : ℕ → ℕ → ℕ) (s : ℕ) {old new scratch mid : List ℕ}
       → Laid (length scratch) (w / 2) (h / 2) (w / 2)

@@ -14,22 +14,21 @@ use lib.Dec.{ltb}
 use lib.ListN.{length}
 use Rattle.numbers.specs.Written.{Painted}
 use Rattle.numbers.proofs.Written.{painted_get, painted_same}
+use Rattle.std.specs.Prelude.{Result, Ok}
 use Rattle.image.specs.Call.{Gray8, gray8, accepts, number_of}
+use Rattle.image.specs.declared.refusal as refusal
 use Rattle.image.specs.Conditions.{Refusal, Matches}
 use Rattle.image.specs.Picture.{pixel}
 use Rattle.image.specs.Refusal.{first_refusal}
 use Rattle.image.specs.Same.{SamePicture}
 use Rattle.image.proofs.Call.{decided_accepts, number_decided}
 use Rattle.image.proofs.Pair.{at_laid}
-use Rattle.image.proofs.Refusal.{accepted, place_within}
+use Rattle.image.proofs.Accepted.{accepted, place_within}
 use Rattle.resize.specs.Call.{max_halvings, count_refusal, halving_refusal, halve_scratch, halve_refusal}
-use Rattle.resize.specs.Call.{resize_answer, decision_of, box_decision, BoxHalved}
+use Rattle.resize.specs.Call.{box_decision, BoxHalved}
 use Rattle.resize.specs.Call.{halve_decision, HalveWrites, Halved}
 use Rattle.resize.specs.Conditions.{SomeBelow2, halve_conditions, HalveAccepted}
 use Rattle.resize.specs.Halving.{halved_times, side_after, starts_below2}
-use Rattle.resize.specs.declared.ResizeAnswer.{ResizeAnswer}
-use Rattle.resize.specs.declared.ResizeAnswer.TheVariants.{Done}
-use Rattle.resize.proofs.Answers.{decision_told}
 use Rattle.resize.proofs.Conditions.{halve_iff, halve_exactly}
 use Rattle.resize.proofs.Halvings.{Agree, times_together, times_same}
 use Rattle.resize.proofs.Refusals.{halving_one}
@@ -76,9 +75,9 @@ result_of dst new = gray8 new dst.width dst.height dst.stride
 
 -- what an accepted call has
 module _ (count : ℕ) (src dst : Gray8) {new scratch scratch₁ : List ℕ}
-    (call : Halved count src dst new scratch scratch₁ Done) where
+    (call : Halved count src dst new scratch scratch₁ (Ok tt)) where
   decides : halve_decision count src dst (length scratch) ≡ accepts tt
-  decides = sym (decision_told _) ∙ ap decision_of (sym call.answered)
+  decides = sym call.answered
 
   taken : HalveAccepted (length src.bytes) src.width src.height src.stride (length dst.bytes)
       dst.width dst.height dst.stride count (length scratch)
@@ -97,7 +96,7 @@ module _ (count : ℕ) (src dst : Gray8) {new scratch scratch₁ : List ℕ}
       (side_after count src.height) dst.stride painted c r hc hr l.stride_least (place_within l c r hc hr)
 
 module _ (m n : ℕ) (few : m + n ≤ max_halvings) (src mid dst : Gray8) {mid' scratch scratch₁ : List ℕ}
-    (first : Halved m src mid mid' scratch scratch₁ Done) where
+    (first : Halved m src mid mid' scratch scratch₁ (Ok tt)) where
   -- they decide the same, with as much scratch
   pub decision_together : halve_decision n (result_of mid mid') dst (length scratch)
       ≡ halve_decision (m + n) src dst (length scratch)
@@ -158,23 +157,23 @@ module _ (m n : ℕ) (few : m + n ≤ max_halvings) (src mid dst : Gray8) {mid' 
     same = rw lent decision_together
 
     -- what the second call may leave is what one call of both may leave, and the other way round
-    pub then_is_together : {new other₁ : List ℕ} {answer : ResizeAnswer}
+    pub then_is_together : {new other₁ : List ℕ} (answer : Result (Unit {0}) refusal.Refusal.Refusal)
         → Halved n (result_of mid mid') dst new other other₁ answer
         → Halved (m + n) src dst new other other₁ answer
-    then_is_together o =
+    then_is_together answer o =
         record {
-          answered = o.answered ∙ ap resize_answer same;
+          answered = o.answered ∙ same;
           written = λ found is. (writes-together _ _).0 (o.written found (same ∙ is));
           dst_kept = λ k is. o.dst_kept k (same ∙ is);
           scratch_kept = λ k is. o.scratch_kept k (same ∙ is);
         }
 
-    pub together_is_then : {new other₁ : List ℕ} {answer : ResizeAnswer}
+    pub together_is_then : {new other₁ : List ℕ} (answer : Result (Unit {0}) refusal.Refusal.Refusal)
         → Halved (m + n) src dst new other other₁ answer
         → Halved n (result_of mid mid') dst new other other₁ answer
-    together_is_then o =
+    together_is_then answer o =
         record {
-          answered = o.answered ∙ ap resize_answer (sym same);
+          answered = o.answered ∙ (sym same);
           written = λ found is. (writes-together _ _).1 (o.written found (sym same ∙ is));
           dst_kept = λ k is. o.dst_kept k (sym same ∙ is);
           scratch_kept = λ k is. o.scratch_kept k (sym same ∙ is);
@@ -242,13 +241,13 @@ module _ (src dst : Gray8) where
       )
 
   -- with its scratch, the call is the single one
-  pub one_is_box : {new scratch scratch₁ : List ℕ} {answer : ResizeAnswer}
+  pub one_is_box : {new scratch scratch₁ : List ℕ} (answer : Result (Unit {0}) refusal.Refusal.Refusal)
       → halve_scratch src.width src.height ≤ length scratch → Halved 1 src dst new scratch scratch₁ answer
       → BoxHalved src dst new answer
   unfolding halved_times side_after
-  one_is_box {scratch = scratch} enough o =
+  one_is_box {scratch = scratch} answer enough o =
       record {
-        answered = o.answered ∙ ap resize_answer decides-one;
+        answered = o.answered ∙ decides-one;
         written = λ found is. o.written found (decides-one ∙ is);
         dst_kept = λ k is. o.dst_kept k (decides-one ∙ is);
         scratch_kept = λ _ _ _. refl;
@@ -264,7 +263,7 @@ unfolding count_refusal starts_below2
 none_starts w h = refl
 
 -- the destination shows the source's picture
-pub none_copies : (src dst : Gray8) {new scratch scratch₁ : List ℕ} → Halved 0 src dst new scratch scratch₁ Done
+pub none_copies : (src dst : Gray8) {new scratch scratch₁ : List ℕ} → Halved 0 src dst new scratch scratch₁ (Ok tt)
     → SamePicture src (result_of dst new)
 unfolding halved_times side_after
 none_copies src dst call =

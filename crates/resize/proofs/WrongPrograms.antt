@@ -8,13 +8,14 @@ use mathlib.Core.Path.{◌≡◌, refl}
 use lib.ListN.{length}
 use Rattle.numbers.specs.Sum.{count}
 use Rattle.numbers.proofs.Written.{painted_get}
+use Rattle.std.specs.Prelude.{Result}
 use Rattle.image.specs.Call.{gray8}
+use Rattle.image.specs.declared.refusal.Refusal.{Refusal}
 use Rattle.image.specs.Picture.{pixel}
 use Rattle.image.specs.Refusal.{layout_refusal, sized_refusal}
 use Rattle.image.proofs.Call.{decided_none}
 use Rattle.resize.specs.Call.{count_refusal, halving_refusal, Halved}
 use Rattle.resize.specs.Halving.{mean_of_four, halved_times, side_after, starts_below2}
-use Rattle.resize.specs.declared.ResizeAnswer.{ResizeAnswer}
 use Rattle.resize.proofs.Refusals.{halve_0}
 
 -- the mean over 2^n by 2^n pixels, a half rounded up
@@ -34,11 +35,11 @@ starts : halving_refusal 16 4 4 4 1 1 1 1 2 ≡ 0
 unfolding halving_refusal layout_refusal sized_refusal count_refusal starts_below2 side_after
 starts = refl
 
-block_mean_refused : {old : ℕ} {scratch scratch₁ : List ℕ} {answer : ResizeAnswer} → 16 ≤ length scratch
+block_mean_refused : {old : ℕ} {scratch scratch₁ : List ℕ} (answer : Result (Unit {0}) Refusal) → 16 ≤ length scratch
     → Halved 2 (gray8 four 4 4 4) (gray8 (old ∷ []) 1 1 1) (block_mean 2 (pixel four 4) 0 0 ∷ []) scratch scratch₁ answer
     → ⊥
 unfolding block_mean four count mean_of_four halved_times side_after
-block_mean_refused {scratch = scratch} enough call =
+block_mean_refused {scratch = scratch} answer enough call =
     let painted = call.written tt (decided_none (halve_0 16 4 4 4 1 1 1 1 2 (length scratch) starts enough) tt) in
     let get = painted_get (halved_times 2 (pixel four 4)) 1 1 1 painted 0 0 in
     let one : ◌≡◌ {A = ℕ} 1 2 = get (omega arith) (omega arith) (le_refl 1) (omega arith) in

@@ -1,12 +1,11 @@
 -- The contracts of the two calls (document 02, K8).
-use Rattle.std.specs.Prelude.{ℕ, ◌*◌, ◌/◌, cond, ◌||◌, List, eqb, ltb, length}
+use Rattle.std.specs.Prelude.{ℕ, ◌*◌, ◌/◌, cond, ◌||◌, List, Result, eqb, ltb, length}
 use Rattle.numbers.specs.Written.{Painted}
-use Rattle.image.specs.Call.{Gray8, Decision, accepts, refuses, decided, number_of, Outcome}
+use Rattle.image.specs.Call.{Gray8, Decision, decided, told, same, Outcome}
+use Rattle.image.specs.declared.refusal.Refusal.{Refusal}
 use Rattle.image.specs.Refusal.{first_refusal, layout_refusal, sized_refusal}
 use Rattle.image.specs.Picture.{pixel}
 use Rattle.resize.specs.Halving.{halved, halved_times, side_after, starts_below2}
-use Rattle.resize.specs.declared.ResizeAnswer.{ResizeAnswer}
-use Rattle.resize.specs.declared.ResizeAnswer.TheVariants.{Done, Refused}
 
 -- ---- refusals: 0 is none
 
@@ -56,20 +55,6 @@ halve_refusal len width height stride dst_len dst_width dst_height dst_stride co
     first_refusal (halving_refusal len width height stride dst_len dst_width dst_height dst_stride count)
     (cond (ltb scratch_len (halve_scratch width height)) 10 0)
 
--- ---- answers: the calls find nothing
-
-abbrev pub resize_answer : Decision (Unit {0}) → ResizeAnswer
-resize_answer (accepts found) = Done
-resize_answer (refuses number) = Refused number
-
--- an answer's decision
-abbrev pub decision_of : ResizeAnswer → Decision (Unit {0})
-decision_of Done = accepts tt
-decision_of (Refused number) = refuses number
-
-abbrev pub answer_number : ResizeAnswer → ℕ
-answer_number answer = number_of (decision_of answer)
-
 -- ---- `box_downscale_half`, which has no scratch
 
 abbrev pub box_decision : Gray8 → Gray8 → Decision (Unit {0})
@@ -85,9 +70,9 @@ BoxWrites src dst_stride found old new =
     Painted 0 (halved (pixel src.bytes src.stride)) (src.width / 2) (src.height / 2) dst_stride old new
 
 -- a call on a source, with a destination and what it is after
-abbrev pub BoxHalved : Gray8 → Gray8 → List ℕ → ResizeAnswer → Type 0
+abbrev pub BoxHalved : Gray8 → Gray8 → List ℕ → Result (Unit {0}) Refusal → Type 0
 BoxHalved src dst new answer =
-    Outcome (box_decision src dst) resize_answer (BoxWrites src dst.stride) dst.bytes new (tt {0}) (tt {0}) answer
+    Outcome (box_decision src dst) same (BoxWrites src dst.stride) dst.bytes new (tt {0}) (tt {0}) (told answer)
 
 -- ---- `halve`
 
@@ -104,7 +89,7 @@ HalveWrites count src dst_stride found old new =
     (side_after count src.height) dst_stride old new
 
 -- the same, with the scratch before and after
-abbrev pub Halved : ℕ → Gray8 → Gray8 → List ℕ → List ℕ → List ℕ → ResizeAnswer → Type 0
+abbrev pub Halved : ℕ → Gray8 → Gray8 → List ℕ → List ℕ → List ℕ → Result (Unit {0}) Refusal → Type 0
 Halved count src dst new scratch scratch' answer =
-    Outcome (halve_decision count src dst (length scratch)) resize_answer (HalveWrites count src dst.stride)
-    dst.bytes new scratch scratch' answer
+    Outcome (halve_decision count src dst (length scratch)) same (HalveWrites count src dst.stride)
+    dst.bytes new scratch scratch' (told answer)

@@ -1,7 +1,11 @@
 // What a number of halvings refuses, before its scratch.
-ghost use Rattle.std.specs.Prelude.{◌≡◌};
+ghost use Rattle.std.specs.Prelude.{◌≡◌, IfOk};
+ghost use Rattle.image.specs.Call.{Checks};
 ghost use Rattle.resize.specs.Halving.{side_after};
-ghost use Rattle.resize.specs.Call.{left_refusal, halving_refusal};
+ghost use Rattle.resize.specs.Call.{count_refusal, left_refusal, halving_refusal};
+ghost use Rattle.resize.specs.Conditions.{Resizes};
+
+use image::{Layout, Refusal};
 
 pub const MAX_HALVINGS: usize = 10;
 
@@ -9,60 +13,39 @@ pub const MAX_HALVINGS: usize = 10;
 fn side_after(side: usize, count: usize) -> usize
     ensures { result ≡ side_after count side }
 {
-    let mut left = count;
     let mut now = side;
-    while left > 0 {
+    for _ in 0..count {
         now /= 2;
-        left -= 1;
     }
     now
 }
 
 // 18, by what the halvings leave of the sides: one starts from a side below 2 exactly where nothing is left of it.
-fn left_refusal(width: usize, height: usize) -> u8
-    ensures { result ≡ left_refusal width height }
+#[tactic(auto, unfolding(crate::specs::Call::left_refusal))]
+fn check_left(width: usize, height: usize) -> Result<(), Refusal>
+    ensures { Checks (left_refusal width height) result }
 {
     if width == 0 || height == 0 {
-        return 18;
+        return Err(Refusal::CannotHalve);
     }
-    0
+    Ok(())
 }
 
 // 1 to 4 of the source, 18, then 5 and 6 of the destination.
-pub(crate) fn halving_refusal(
-    src_len: usize,
-    width: usize,
-    height: usize,
-    stride: usize,
-    dst_len: usize,
-    dst_width: usize,
-    dst_height: usize,
-    dst_stride: usize,
-    count: usize,
-) -> u8
-    ensures { result ≡ halving_refusal src_len width height stride dst_len dst_width dst_height dst_stride
-        count }
+#[tactic(auto, unfolding(crate::specs::Call::halving_refusal))]
+pub(crate) fn check_halving(src: Layout, dst: Layout, count: usize) -> Result<(), Refusal>
+    ensures number { Checks (halving_refusal src.len src.width src.height src.stride
+        dst.len dst.width dst.height dst.stride count) result }
+    ensures laid { IfOk result (λ _. Resizes src.len src.width src.height src.stride
+        dst.len dst.width dst.height dst.stride (count_refusal count src.width src.height)
+        (side_after count src.width) (side_after count src.height)) }
 {
-    let own = image::layout_refusal(src_len, width, height, stride);
-    if own != 0 {
-        return own;
-    }
+    src.check()?;
     if count > MAX_HALVINGS {
-        return 18;
+        return Err(Refusal::CannotHalve);
     }
-    let last_width = side_after(width, count);
-    let last_height = side_after(height, count);
-    let target = image::sized_refusal(
-        dst_len,
-        dst_width,
-        dst_height,
-        dst_stride,
-        last_width,
-        last_height,
-    );
-    let start = left_refusal(last_width, last_height);
-    if start != 0 {
-        return start;
-    }
-    target
+    let width = side_after(src.width, count);
+    let height = side_after(src.height, count);
+    check_left(width, height)?;
+    dst.check_destination(width, height)
 }

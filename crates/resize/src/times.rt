@@ -1,59 +1,82 @@
 // As many halvings as stated. The first reads the source and the last writes the destination; what is between them
-// stands at the front of the scratch.
-ghost use Rattle.std.specs.Prelude.{◌+◌, ◌*◌, ◌≤◌, length};
+// stands in the scratch, at the front of one part of it and of the other in turn.
+ghost use Rattle.std.specs.Prelude.{◌+◌, ◌*◌, ◌/◌, ◌≤◌, length};
 ghost use Rattle.numbers.specs.Written.{Painted};
 ghost use Rattle.image.specs.Refusal.{Laid};
 ghost use Rattle.image.specs.Picture.{pixel};
+ghost use Rattle.image.specs.View.{LaidView};
 ghost use Rattle.resize.specs.Halving.{side_after, halved_times};
 
-use crate::half::{half_rows, half_within};
+use crate::half::half_rows;
+use image::Gray8View;
 
-// The tight picture at the front of the scratch, by one halving and `more` behind it. It ends since `more` falls.
+// The tight picture at the front of a part, by one halving and `more` behind it. It ends since `more` falls. No view of
+// the parts: they change places. Of the destination bytes and stride: its sides follow.
 fn halve_on(
-    scratch: &mut [u8],
+    part: &mut [u8],
     width: usize,
     height: usize,
+    other: &mut [u8],
     dst: &mut [u8],
     dst_stride: usize,
     more: usize,
 )
-    requires laid { Laid (length scratch.old) width height width }
+    requires laid { Laid (length part.old) width height width }
     requires laid_2 { Laid (length dst.old) (side_after (more + 1) width) (side_after (more + 1) height) dst_stride }
-    ensures { Painted 0 (halved_times (more + 1) (pixel scratch.old width))
+    requires other_len { width / 2 * (height / 2) ≤ length other.old }
+    ensures { Painted 0 (halved_times (more + 1) (pixel part.old width))
         (side_after (more + 1) width) (side_after (more + 1) height) dst_stride dst.old dst.new }
 {
+    let picture = Gray8View::new(part, width, height, width);
     if more == 0 {
-        half_rows(scratch, width, height, width, dst, dst_stride);
+        half_rows(picture, dst, dst_stride);
         return;
     }
-    half_within(scratch, width, height);
-    halve_on(scratch, width / 2, height / 2, dst, dst_stride, more - 1);
+    half_rows(picture, other, width / 2);
+    halve_on(
+        other,
+        width / 2,
+        height / 2,
+        part,
+        dst,
+        dst_stride,
+        more - 1,
+    );
 }
 
-pub(crate) fn halve_times(
-    data: &[u8],
-    width: usize,
-    height: usize,
-    stride: usize,
+// Of the destination bytes and stride: its sides follow from the count.
+pub(crate) fn halve_times<'a>(
+    src: Gray8View<'a>,
     dst: &mut [u8],
     dst_stride: usize,
     count: usize,
     scratch: &mut [u8],
 )
-    requires laid { Laid (length «data».now) width height stride }
-    requires laid_2 { Laid (length dst.old) (side_after count width) (side_after count height) dst_stride }
-    requires height_in_bounds { width * height ≤ length scratch.old }
-    ensures { Painted 0 (halved_times count (pixel «data».now stride))
-        (side_after count width) (side_after count height) dst_stride dst.old dst.new }
+    requires laid { LaidView src }
+    requires laid_2 { Laid (length dst.old) (side_after count src.width) (side_after count src.height) dst_stride }
+    requires scratch_len { src.width * src.height ≤ length scratch.old }
+    ensures { Painted 0 (halved_times count (pixel src.entry.«data».now src.entry.stride))
+        (side_after count src.entry.width) (side_after count src.entry.height) dst_stride dst.old dst.new }
 {
     if count == 0 {
-        image::kernel::copy_rows(data, width, height, stride, dst, dst_stride);
+        image::kernel::copy_rows(src, dst, dst_stride);
         return;
     }
     if count == 1 {
-        half_rows(data, width, height, stride, dst, dst_stride);
+        half_rows(src, dst, dst_stride);
         return;
     }
-    half_rows(data, width, height, stride, scratch, width / 2);
-    halve_on(scratch, width / 2, height / 2, dst, dst_stride, count - 2);
+    let half_width = src.width / 2;
+    let half_height = src.height / 2;
+    let (front, back) = scratch.split_at_mut(half_width * half_height);
+    half_rows(src, front, half_width);
+    halve_on(
+        front,
+        half_width,
+        half_height,
+        back,
+        dst,
+        dst_stride,
+        count - 2,
+    );
 }

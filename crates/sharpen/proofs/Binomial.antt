@@ -1,6 +1,9 @@
 -- Laws of the definitions: the taps of a place, the five-tap sum and its bound, the two passes are the sum of 25
 -- products, and the cases of the cut.
-use Prim.Native.Nat.{ℕ, ◌+◌, ◌-◌, ◌*◌, ◌/◌, ◌≤◌, ◌<◌}
+use Prim.Native.Nat.{ℕ, ◌+◌, ◌-◌, ◌*◌, ◌/◌, ◌≤◌, ◌<◌, min}
+use borrow.Author.Tests.{leb-true, leb-false}
+use lib.Dec.{leb}
+use Rattle.numbers.proofs.Test.{by_test}
 use mathlib.Core.Path.{◌≡◌, sym, ◌∙◌, ap}
 use native.Mathlib.Nat.{mul_assoc}
 use native.Mathlib.Omega.{arith}
@@ -82,3 +85,12 @@ module _ (p s : ℕ) where
       let e : difference ≡ pos (2 * p - (s + 128) / 256) =
       omega (arith, linear, up_sub (pos (2 * p)) (pos ((s + 128) / 256))) in
       ap clamp_byte e ∙ omega arith
+
+  pub sharper_is : sharper p s ≡ min (2 * p - (s + 128) / 256) 255
+  sharper_is =
+      let b = (s + 128) / 256 in
+      by_test (leb (2 * p) b) (λ t. let l = leb-true (2 * p) b t in sharper_below l ∙ omega arith)
+      (λ t.
+      let l = leb-false (2 * p) b t in
+      by_test (leb (b + 255) (2 * p)) (λ u. let m = leb-true (b + 255) (2 * p) u in sharper_above m ∙ omega arith)
+      (λ u. let m = leb-false (b + 255) (2 * p) u in sharper_within (omega arith) (omega arith) ∙ omega arith))

@@ -2,7 +2,7 @@
 -- a row's width as the code counts it, end − start.
 use Prim.Native.Nat.{ℕ, ◌+◌, ◌-◌, ◌*◌, ◌≤◌, ◌<◌}
 use mathlib.Core.List.{List, ◌++◌}
-use mathlib.Core.Path.{◌≡◌, refl, sym, ◌∙◌, ap}
+use mathlib.Core.Path.{◌≡◌, refl, sym, ◌∙◌}
 use native.Mathlib.Nat.{le_refl}
 use native.Mathlib.Omega.{arith}
 use lib.ListN.{length, get_or, take, drop}
@@ -12,8 +12,8 @@ use Rattle.numbers.proofs.Places.{part_join, within_front}
 use Rattle.numbers.proofs.Written.{written_join, written_part, painted_get}
 use Rattle.image.specs.Picture.{pixel}
 use Rattle.image.proofs.Rows.{row_end_within, row_part_length, row_part_at}
-use Rattle.sharpen.specs.Binomial.{tap_place, binomial_sum, sharper, unsharp}
-use Rattle.sharpen.specs.Passes.{weighed, tap_sum, sum_at, inside_at, sharper_at, Sums, RowSums}
+use Rattle.sharpen.specs.Binomial.{tap_place, binomial_sum}
+use Rattle.sharpen.specs.Passes.{weighed, tap_sum, sum_at, inside_at, Sums, RowSums}
 use Rattle.sharpen.proofs.Binomial.{tap_lt, tap_inside, tap_sum_is, tap_sum_same, tap_sum_most, two_passes}
 use Rattle.sharpen.proofs.Places.{part_front}
 
@@ -25,6 +25,10 @@ inside_is row x h =
     let e3 = tap_inside (length row) x 3 h (omega arith) in
     let e4 = tap_inside (length row) x 4 h (omega arith) in
     rw (tap_sum_is (λ i. get_or row i 0) (length row) (2 + x), e0, e1, e2, e3, e4)
+
+-- no sum of five bytes passes 16 × 255
+pub sum_most : (row : List ℕ) (x : ℕ) → ((i : ℕ) → get_or row i 0 ≤ 255) → x < length row → sum_at row x ≤ 4080
+sum_most row x bytes h = tap_sum_most (λ i. get_or row i 0) (length row) x 255 h (λ i _. bytes i)
 
 -- two columns, those inside, two columns
 module _ (row out out₁ ys out₃ : List ℕ) (long : 5 ≤ length row) (same : length out ≡ length row) where
@@ -67,41 +71,37 @@ module _ (xs : List ℕ) (w s y m : ℕ) (same : m ≡ w) (fits : y * s + w ≤ 
 
 -- the sums of all rows
 pub row_sums_lem : (xs : List ℕ) (w h s : ℕ) (old new : List ℕ) → w * h ≤ length old
+    → ((r : ℕ) → r < h → (x : ℕ) → x < w → row_sum xs s w x r ≤ 4080)
     → Painted 0 (row_sum xs s w) w h w old new → RowSums (pixel xs s) w h new
-row_sums_lem xs w h s old new b P x y p q =
-    painted_get (row_sum xs s w) w h w P x y p q (le_refl w) (omega (arith, row_end_within w h y q))
+row_sums_lem xs w h s old new b small P = record {
+  each = each;
+  most = λ x y p q. rw (each x y p q) (small y q x p);
+}
+  where
+    each : (x y : ℕ) → x < w → y < h → get_or new (y * w + x) 0 ≡ tap_sum (λ c. pixel xs s c y) w x
+    each x y p q =
+        painted_get (row_sum xs s w) w h w P x y p q (le_refl w) (omega (arith, row_end_within w h y q))
 
 -- ---- the second pass
 
-module _ (px : ℕ → ℕ → ℕ) (w h : ℕ) (sums : List ℕ) (R : RowSums px w h sums) where
-  abbrev row_of_sums : ℕ → List ℕ
-  row_of_sums t = take w (drop (t * w) sums)
+-- the row of a tap ends within the sums
+pub tap_end : (w h y i : ℕ) {t n : ℕ} → t ≡ tap_place h y i → y < h → w * h ≤ n → t * w + w ≤ n
+tap_end w h y i {t} e l fits = omega (arith, row_end_within w h t (rw e (tap_lt h y i l)), fits)
 
-  pub sums_at : (t x : ℕ) → t < h → x < w → get_or (row_of_sums t) x 0 ≡ tap_sum (λ c. px c t) w x
-  sums_at t x b d = get_d_part (t * w) w sums x 0 d ∙ R x t d b
+-- row t, as a part of m sums
+pub sums_row : (px : ℕ → ℕ → ℕ) (w h : ℕ) (sums : List ℕ) (t m : ℕ) → RowSums px w h sums → w * h ≤ length sums → m ≡ w
+    → t < h → Sums px w t (take m (drop (t * w) sums))
+sums_row px w h sums t m R fits same b = rw same (record {
+  long = length_part (t * w) w sums (omega (arith, row_end_within w h t b));
+  each = λ x d. get_d_part (t * w) w sums x 0 d ∙ R.each x t d b;
+  most = λ x d. rw (get_d_part (t * w) w sums x 0 d) (R.most x t d b);
+})
 
-  pub sums_row : w * h ≤ length sums → ((c r : ℕ) → c < w → r < h → px c r ≤ 255) → (t : ℕ) → t < h → Sums w (row_of_sums t)
-  sums_row fits bytes t b =
-      record {
-        long = length_part (t * w) w sums (omega (arith, row_end_within w h t b));
-        most = λ x d. rw (sums_at t x b d) (tap_sum_most (λ c. px c t) w x 255 d (λ c l. bytes c t l b));
-      }
-
-  -- five rows of sums, weighed
-  pub down_is : (x y : ℕ) → x < w → y < h
-      → weighed (get_or (row_of_sums (tap_place h y 0)) x 0) (get_or (row_of_sums (tap_place h y 1)) x 0)
-      (get_or (row_of_sums (tap_place h y 2)) x 0) (get_or (row_of_sums (tap_place h y 3)) x 0)
-      (get_or (row_of_sums (tap_place h y 4)) x 0) ≡ binomial_sum px w h x y
-  down_is x y b d =
-      rw (at 0, at 1, at 2, at 3, at 4) (sym (tap_sum_is (λ r. tap_sum (λ c. px c r) w x) h y) ∙ two_passes px w h x y)
-    where
-      at : (i : ℕ) → get_or (row_of_sums (tap_place h y i)) x 0 ≡ tap_sum (λ c. px c (tap_place h y i)) w x
-      at i = sums_at (tap_place h y i) x (tap_lt h y i d) b
-
-  -- a pixel of the destination, from a row of the source and the rows a to e
-  pub sharp_is : (row a b c d e : List ℕ) (y : ℕ) → y < h → a ≡ row_of_sums (tap_place h y 0) → b ≡ row_of_sums (tap_place h y 1)
-      → c ≡ row_of_sums (tap_place h y 2) → d ≡ row_of_sums (tap_place h y 3) → e ≡ row_of_sums (tap_place h y 4) → (x : ℕ)
-      → x < w → get_or row x 0 ≡ px x y
-      → sharper_at row a b c d e x ≡ unsharp px w h x y
-  sharp_is row a b c d e y l ea eb ec ed ee x k ep =
-      rw (ea, eb, ec, ed, ee, ep) (ap (sharper (px x y)) (down_is x y k l))
+-- five rows of sums, weighed
+pub down_is : (px : ℕ → ℕ → ℕ) (w h x y : ℕ) {a b c d e : List ℕ} → Sums px w (tap_place h y 0) a
+    → Sums px w (tap_place h y 1) b → Sums px w (tap_place h y 2) c → Sums px w (tap_place h y 3) d
+    → Sums px w (tap_place h y 4) e → x < w
+    → weighed (get_or a x 0) (get_or b x 0) (get_or c x 0) (get_or d x 0) (get_or e x 0) ≡ binomial_sum px w h x y
+down_is px w h x y A B C D E l =
+    rw (A.each x l, B.each x l, C.each x l, D.each x l, E.each x l)
+    (sym (tap_sum_is (λ r. tap_sum (λ c. px c r) w x) h y) ∙ two_passes px w h x y)

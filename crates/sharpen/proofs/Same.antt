@@ -6,16 +6,18 @@ use mathlib.Core.List.{List}
 use mathlib.Core.Path.{◌≡◌, ap, ap₂}
 use lib.ListN.{length}
 use Rattle.numbers.proofs.Sum.{count_same}
-use Rattle.image.specs.Call.{Gray8, decided}
+use Rattle.std.specs.Prelude.{Result}
+use Rattle.image.specs.Call.{Gray8, Decision, decided, Outcome}
+use Rattle.image.specs.declared.refusal.Refusal.{Refusal}
 use Rattle.image.specs.Picture.{pixel}
 use Rattle.image.specs.Same.{SamePicture, SameLayout, SameEnd}
 use Rattle.image.proofs.Call.{decided_accepts}
 use Rattle.image.proofs.Chain.{first_zero}
 use Rattle.image.proofs.Pair.{laid_pair, destination_laid}
 use Rattle.image.proofs.Same.{pair_same, ends_alike}
+use Rattle.image.proofs.Told.{told_one}
 use Rattle.sharpen.specs.Binomial.{weight, tap_place, binomial_sum, sharper, unsharp}
-use Rattle.sharpen.specs.Call.{binomial_refusal, sharpen_decision, Sharpened}
-use Rattle.sharpen.specs.declared.SharpenAnswer.{SharpenAnswer}
+use Rattle.sharpen.specs.Call.{binomial_refusal, sharpen_decision, SharpenWrites, Sharpened}
 use Rattle.sharpen.proofs.Binomial.{tap_lt}
 
 -- pictures that are equal at their pixels
@@ -44,12 +46,17 @@ module _ {a b : Gray8} (same : SamePicture a b) where
       (ap (λ (k : ℕ). decided {R = Unit {0}} k tt)
       (binomial_refusal_same (length dst'.bytes) dst'.width dst'.height dst'.stride n'))
 
-  pub sharpened_same : {dst dst' : Gray8} {new new' scratch scratch₁ scratch' scratch₁' : List ℕ}
-      {answer answer' : SharpenAnswer} → SameLayout dst dst' → length scratch ≡ length scratch'
-      → Sharpened a dst new scratch scratch₁ answer → Sharpened b dst' new' scratch' scratch₁' answer'
+  -- whatever shows the decision
+  pub sharpen_ends : {A : Type 0} {answers : Decision (Unit {0}) → A} {dst dst' : Gray8}
+      {new new' scratch scratch₁ scratch' scratch₁' : List ℕ} {answer answer' : A} → SameLayout dst dst'
+      → length scratch ≡ length scratch'
+      → Outcome (sharpen_decision a dst (length scratch)) answers (SharpenWrites a dst.stride) dst.bytes new scratch scratch₁
+      answer
+      → Outcome (sharpen_decision b dst' (length scratch')) answers (SharpenWrites b dst'.stride) dst'.bytes new' scratch'
+      scratch₁' answer'
       → SameEnd (sharpen_decision a dst (length scratch)) 0 a.width a.height dst.stride new new' answer answer'
   unfolding binomial_refusal
-  sharpened_same alike lent =
+  sharpen_ends alike lent =
       ends_alike (λ _. unsharp (pixel a.bytes a.stride) a.width a.height)
       (λ _. unsharp (pixel b.bytes b.stride) b.width b.height) same (sharpen_same alike lent)
       alike.same_stride alike.same_length
@@ -58,3 +65,11 @@ module _ {a b : Gray8} (same : SamePicture a b) where
       rw (← same.same_width, ← same.same_height)
       (unsharp_same (pixel a.bytes a.stride) (pixel b.bytes b.stride) a.width a.height c r
       same.same_pixels hc hr))
+
+  pub sharpened_same : {dst dst' : Gray8} {new new' scratch scratch₁ scratch' scratch₁' : List ℕ}
+      {answer answer' : Result (Unit {0}) Refusal} → SameLayout dst dst' → length scratch ≡ length scratch'
+      → Sharpened a dst new scratch scratch₁ answer → Sharpened b dst' new' scratch' scratch₁' answer'
+      → SameEnd (sharpen_decision a dst (length scratch)) 0 a.width a.height dst.stride new new' answer answer'
+  sharpened_same {answer = answer} {answer'} alike lent o o' =
+      let e = sharpen_ends alike lent o o' in
+      record { same_answer = told_one answer answer' e.same_answer; same_pixels = e.same_pixels }

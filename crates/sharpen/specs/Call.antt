@@ -1,12 +1,11 @@
 -- The contract of the binomial unsharp.
-use Rattle.std.specs.Prelude.{ℕ, ◌*◌, cond, List, ltb, length}
+use Rattle.std.specs.Prelude.{ℕ, ◌*◌, cond, List, Result, ltb, length}
 use Rattle.numbers.specs.Written.{Painted}
-use Rattle.image.specs.Call.{Gray8, Decision, accepts, refuses, decided, number_of, Outcome}
+use Rattle.image.specs.Call.{Gray8, Decision, decided, told, same, Outcome}
+use Rattle.image.specs.declared.refusal.Refusal.{Refusal}
 use Rattle.image.specs.Refusal.{first_refusal, pair_refusal}
 use Rattle.image.specs.Picture.{pixel}
 use Rattle.sharpen.specs.Binomial.{unsharp}
-use Rattle.sharpen.specs.declared.SharpenAnswer.{SharpenAnswer}
-use Rattle.sharpen.specs.declared.SharpenAnswer.TheVariants.{Done, Refused}
 
 -- how many u16 the call asks as scratch
 abbrev pub binomial_scratch : ℕ → ℕ → ℕ
@@ -17,19 +16,6 @@ unfoldable pub binomial_refusal : ℕ → ℕ → ℕ → ℕ → ℕ → ℕ �
 binomial_refusal len width height stride dst_len dst_width dst_height dst_stride scratch_len =
     first_refusal (pair_refusal len width height stride dst_len dst_width dst_height dst_stride)
     (cond (ltb scratch_len (binomial_scratch width height)) 10 0)
-
--- the call finds nothing
-abbrev pub sharpen_answer : Decision (Unit {0}) → SharpenAnswer
-sharpen_answer (accepts found) = Done
-sharpen_answer (refuses number) = Refused number
-
--- an answer's decision
-abbrev pub decision_of : SharpenAnswer → Decision (Unit {0})
-decision_of Done = accepts tt
-decision_of (Refused number) = refuses number
-
-abbrev pub answer_number : SharpenAnswer → ℕ
-answer_number answer = number_of (decision_of answer)
 
 abbrev pub sharpen_decision : Gray8 → Gray8 → ℕ → Decision (Unit {0})
 sharpen_decision src dst scratch_len =
@@ -46,7 +32,7 @@ SharpenWrites src dst_stride found old new =
     src.height dst_stride old new
 
 -- a call on a source, with a destination and what it is after, and the scratch before and after
-abbrev pub Sharpened : Gray8 → Gray8 → List ℕ → List ℕ → List ℕ → SharpenAnswer → Type 0
+abbrev pub Sharpened : Gray8 → Gray8 → List ℕ → List ℕ → List ℕ → Result (Unit {0}) Refusal → Type 0
 Sharpened src dst new scratch scratch' answer =
-    Outcome (sharpen_decision src dst (length scratch)) sharpen_answer (SharpenWrites src dst.stride)
-    dst.bytes new scratch scratch' answer
+    Outcome (sharpen_decision src dst (length scratch)) same (SharpenWrites src dst.stride)
+    dst.bytes new scratch scratch' (told answer)

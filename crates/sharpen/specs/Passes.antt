@@ -2,7 +2,7 @@
 -- `two_passes`.
 use Rattle.std.specs.Prelude.{ℕ, ◌+◌, ◌*◌, ◌≤◌, ◌<◌, List, ◌≡◌, length, get_or}
 use Rattle.numbers.specs.Sum.{count}
-use Rattle.sharpen.specs.Binomial.{weight, tap_place, sharper}
+use Rattle.sharpen.specs.Binomial.{weight, tap_place}
 
 -- 1 4 6 4 1 times five values
 abbrev pub weighed : ℕ → ℕ → ℕ → ℕ → ℕ → ℕ
@@ -21,19 +21,13 @@ abbrev pub inside_at : List ℕ → ℕ → ℕ
 inside_at row x =
     weighed (get_or row x 0) (get_or row (x + 1) 0) (get_or row (x + 2) 0) (get_or row (x + 3) 0) (get_or row (x + 4) 0)
 
--- the byte at column x of a row, with the five rows of sums that it weighs
-abbrev pub sharper_at : List ℕ → List ℕ → List ℕ → List ℕ → List ℕ → List ℕ → ℕ → ℕ
-sharper_at row a b c d e x =
-    sharper (get_or row x 0) (weighed (get_or a x 0) (get_or b x 0) (get_or c x 0) (get_or d x 0) (get_or e x 0))
+-- row t of the sums of a picture w wide
+pub record Sums (px : ℕ → ℕ → ℕ) (w t : ℕ) (xs : List ℕ) : Type 0 where
+  pub long : length xs ≡ w
+  pub each : (x : ℕ) → x < w → get_or xs x 0 ≡ tap_sum (λ c. px c t) w x
+  pub most : (x : ℕ) → x < w → get_or xs x 0 ≤ 4080
 
--- n sums of bytes
-pub record Sums (n : ℕ) (xs : List ℕ) : Type 0 where
-  pub long : length xs ≡ n
-  pub most : (i : ℕ) → i < n → get_or xs i 0 ≤ 4080
-
-abbrev pub FiveSums : ℕ → List ℕ → List ℕ → List ℕ → List ℕ → List ℕ → Type 0
-FiveSums n a b c d e = Sums n a × Sums n b × Sums n c × Sums n d × Sums n e
-
--- the sums of every row of a picture w by h, row behind row
-abbrev pub RowSums : (ℕ → ℕ → ℕ) → ℕ → ℕ → List ℕ → Type 0
-RowSums px w h xs = (x y : ℕ) → x < w → y < h → get_or xs (y * w + x) 0 ≡ tap_sum (λ c. px c y) w x
+-- the sums of every row of a picture w by h, row behind row; no sum of a row's bytes passes 16 × 255
+pub record RowSums (px : ℕ → ℕ → ℕ) (w h : ℕ) (xs : List ℕ) : Type 0 where
+  pub each : (x y : ℕ) → x < w → y < h → get_or xs (y * w + x) 0 ≡ tap_sum (λ c. px c y) w x
+  pub most : (x y : ℕ) → x < w → y < h → get_or xs (y * w + x) 0 ≤ 4080

@@ -4,27 +4,12 @@
 
 ghost use Rattle.std.specs.Prelude.{◌≡◌, ◌≤◌, length, take};
 
-use smear_run::{MOST_PIXELS, MOST_PRINTED, RunAnswer};
+use reading::read_full;
+use smear_run::{MOST_PIXELS, MOST_PRINTED};
 use std::fs::File;
 use std::io;
-use std::io::{Read, Write};
+use std::io::Write;
 use std::rt::Files;
-
-// Reads until the slice is full, the input ends or a read fails; how many bytes are read, which stand in front.
-fn read_full<R: Read>(input: &mut R, bytes: &mut [u8]) -> usize
-    ensures within { result ≤ length bytes.new }
-    ensures front { result ≡ length (take result bytes.new) }
-{
-    let mut done: usize = 0;
-    while done < bytes.len() {
-        match input.read(&mut bytes[done..]) {
-            Ok(0) => return done,
-            Ok(n) => done += n,
-            Err(_) => return done,
-        }
-    }
-    done
-}
 
 // As much of the file as the slice holds, and how much that is. A file that is missing counts as empty, and so does a
 // folder, of which nothing can be read.
@@ -33,10 +18,7 @@ fn read_file<R: Files>(rt: &R, path: &str, bytes: &mut [u8]) -> usize
     ensures front { result ≡ length (take result bytes.new) }
 {
     match File::open(rt, path) {
-        Ok(file) => {
-            let mut input = file;
-            read_full(&mut input, bytes)
-        }
+        Ok(mut file) => read_full(&mut file, bytes),
         Err(_) => 0,
     }
 }
@@ -51,15 +33,8 @@ fn main(rt: HostRuntime) {
     let job_len = read_file(&rt, "job.rec", &mut job);
     let picture_len = read_file(&rt, "picture.raw", &mut picture);
     let answer = smear_run::run(&job[..job_len], &picture[..picture_len], &mut out);
-    match answer {
-        RunAnswer::Written(n) => {
-            let mut to = io::writer(&rt);
-            match to.write_all(&out[..n]) {
-                Ok(()) => {}
-                Err(_) => {}
-            }
-        }
-        // Never: MOST_PRINTED is room for all that is printed (smear_run/proofs/Most).
-        RunAnswer::Refused(_) => {}
+    // Never refused: MOST_PRINTED is room for all that is printed (smear_run/proofs/Most).
+    if let Ok(n) = answer {
+        let _ = io::writer(&rt).write_all(&out[..n]);
     }
 }

@@ -5,21 +5,22 @@ use mathlib.Core.List.{List}
 use mathlib.Core.Path.{◌≡◌, refl}
 use lib.Dec.{ltb}
 use lib.ListN.{length}
+use Rattle.std.specs.Prelude.{Result, Ok, Err}
 use Rattle.numbers.proofs.Test.{ap_cond, ltb_iff}
 use Rattle.image.specs.Conditions.{Exactly}
 use Rattle.image.proofs.Conditions.{exactly, match_test}
 use Rattle.summary.specs.Conditions.{summary_number}
 use Rattle.summary.specs.File.{summarized}
-use Rattle.summary.specs.declared.SummaryAnswer.{SummaryAnswer}
-use Rattle.summary.specs.declared.SummaryAnswer.TheVariants.{Summary, Refused}
+use Rattle.summary.specs.declared.FaultyRecord.{FaultyRecord}
+use Rattle.summary.specs.declared.RecordSummary.{RecordSummary}
 use Rattle.summary.proofs.Conditions.{summary_matches}
 use Rattle.smear_c.specs.Sheet.{sheet_length, SummaryLeft, leaves, answered_c, summarized_c}
 use Rattle.smear_c.specs.Sheet.{summary_conditions_c}
 
 module _ (xs old : List ℕ) (before : ℕ) where
-  answered-number : (z : SummaryAnswer) → (answered_c z old before).number ≡ summary_number z
-  answered-number (Summary s) = refl
-  answered-number (Refused number i) = refl
+  answered-number : (z : Result RecordSummary FaultyRecord) → (answered_c z old before).number ≡ summary_number z
+  answered-number (Ok s) = refl
+  answered-number (Err fault) = refl
 
   pub summarized_exactly : Exactly (summary_conditions_c xs (length old)) (summarized_c xs old before).number
   summarized_exactly =

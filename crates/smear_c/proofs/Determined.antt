@@ -6,14 +6,15 @@ use mathlib.Core.List.{List}
 use lib.Ieee.{Float}
 use lib.IntN.{ℤ}
 use lib.ListN.{length}
+use Rattle.std.specs.Prelude.{Option}
 use Rattle.image.specs.Call.{Gray8, Returns, number_of, FrontWrites, OutsOnly, WithOuts}
 use Rattle.image.specs.Determined.{Determines}
 use Rattle.image.proofs.Determined.{outcome_determines, outs_one, with_outs_one}
 use Rattle.image.proofs.Front.{front_one}
 use Rattle.raster.specs.Direction.{direction_index}
-use Rattle.raster.specs.declared.direction.SnappedDirection.{SnappedDirection}
+use Rattle.raster.specs.declared.direction.RasterDirection4.{RasterDirection4}
 use Rattle.tensor.specs.Tensor.{direction_decision}
-use Rattle.blur.specs.Length.{snapped_decision}
+use Rattle.blur.specs.Length.{thresholds, snapped_decision}
 use Rattle.deblur.specs.Calls.{filter_decision, FilterWrites, estimate_decision, EstimateWrites}
 use Rattle.deblur.specs.Settings.{LineFilter}
 use Rattle.deblur.proofs.Determined.{filter_one, estimate_one}
@@ -43,11 +44,11 @@ direction_determined src before =
     outcome_determines (λ s. s) (λ _. direction_decision src) number_of (OutsOnly direction_outs) (outs_one direction_outs)
     before
 
-pub length_determined : (src : Gray8) (s : SnappedDirection) (transitions amplitude : ℕ) (before : Float)
+pub length_determined : (src : Gray8) (s : Option RasterDirection4) (transitions amplitude : ℕ) (before : Float)
     → Determines length
     (λ swings swings' after r. LengthMeasuredC src s transitions amplitude before after swings swings' r)
 length_determined src s transitions amplitude before =
-    outcome_determines length (snapped_decision src s transitions amplitude) number_of (OutsOnly pixels_of)
+    outcome_determines length (snapped_decision src s (thresholds transitions amplitude)) number_of (OutsOnly pixels_of)
     (outs_one pixels_of) before
 
 pub pgm_read_determined : (file : List ℕ) (before : PgmPicture)

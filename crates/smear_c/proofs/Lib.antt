@@ -2,5 +2,4 @@
 pub mod Conditions
 pub mod Determined
 pub mod Outs
-pub mod RestorationDecision
 pub mod Same

@@ -1,15 +1,12 @@
 -- The line filters as C has them: settings one by one, a result, and an out-parameter for the direction (document 01,
 -- "Restoration and line unsharp").
 use Rattle.std.specs.Prelude.{List, ℕ, ℤ, Float, length}
-use Rattle.image.specs.Call.{Gray8, Decision, accepts, refuses, number_of, Outcome, WithOuts}
+use Rattle.image.specs.Call.{Gray8, number_of, Outcome, WithOuts}
 use Rattle.raster.specs.Border.{border_from}
 use Rattle.raster.specs.Direction.{direction_index}
-use Rattle.raster.specs.declared.direction.RasterDirection4.{RasterDirection4}
 use Rattle.deblur.specs.Calls.{filter_decision, FilterWrites, estimate_decision, EstimateWrites}
 use Rattle.deblur.specs.Settings.{LineFilter}
 use Rattle.deblur.specs.declared.DirectionalUnsharpConfig.{DirectionalUnsharpConfig}
-use Rattle.deblur.specs.declared.RestorationAnswer.{RestorationAnswer}
-use Rattle.deblur.specs.declared.RestorationAnswer.TheVariants.{Done, Refused}
 use Rattle.deblur.specs.declared.VanCittertConfig.{VanCittertConfig}
 
 abbrev pub restoration_config : Float → ℕ → ℕ → Float → ℕ → ℕ → VanCittertConfig
@@ -30,11 +27,6 @@ unsharp_config angle length gain border value =
       gain = gain;
       border = border_from border value;
     }
-
--- an answer's decision
-abbrev pub decision_of : RestorationAnswer → Decision RasterDirection4
-decision_of (Done metadata) = accepts metadata.raster_direction
-decision_of (Refused number) = refuses number
 
 -- restoration and line unsharp: 0, or the refusal's number; the direction's number is written beside the pixels
 abbrev pub FilteredC : Gray8 → Gray8 → List ℕ → LineFilter → List ℤ → List ℤ → ℕ → ℕ → ℕ → Type 0

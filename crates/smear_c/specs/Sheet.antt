@@ -1,12 +1,11 @@
 -- `smear_summarize`: document 02's sheet (K1) as C has it, a result, 21 numbers and an index.
-use Rattle.std.specs.Prelude.{cond, List, [], ◌∷◌, ◌++◌, ℕ, ◌<◌, ltb, length, drop}
+use Rattle.std.specs.Prelude.{cond, List, [], ◌∷◌, ◌++◌, ℕ, ◌<◌, ltb, length, drop, Result, Ok, Err}
 use Rattle.image.specs.Conditions.{Refusal, given}
 use Rattle.summary.specs.Conditions.{summary_conditions}
-use Rattle.summary.specs.File.{summarized}
+use Rattle.summary.specs.File.{summarized, fault_number}
 use Rattle.summary.specs.declared.DirectionSummary.{DirectionSummary}
 use Rattle.summary.specs.declared.RecordSummary.{RecordSummary}
-use Rattle.summary.specs.declared.SummaryAnswer.{SummaryAnswer}
-use Rattle.summary.specs.declared.SummaryAnswer.TheVariants.{Summary, Refused}
+use Rattle.summary.specs.declared.FaultyRecord.{FaultyRecord}
 
 abbrev pub sheet_length : ℕ
 sheet_length = 21
@@ -33,9 +32,9 @@ abbrev pub leaves : ℕ → List ℕ → ℕ → SummaryLeft
 leaves number sheet index = record { number = number; sheet = sheet; index = index }
 
 -- the sheet in the first elements, or the number with the index; what is not written stays
-abbrev pub answered_c : SummaryAnswer → List ℕ → ℕ → SummaryLeft
-answered_c (Summary s) old before = leaves 0 (sheet_numbers s ++ drop sheet_length old) before
-answered_c (Refused number i) old before = leaves number old i
+abbrev pub answered_c : Result RecordSummary FaultyRecord → List ℕ → ℕ → SummaryLeft
+answered_c (Ok s) old before = leaves 0 (sheet_numbers s ++ drop sheet_length old) before
+answered_c (Err fault) old before = leaves fault_number old fault.index
 
 -- 10 where there is no room, then 13
 abbrev pub summarized_c : List ℕ → List ℕ → ℕ → SummaryLeft

@@ -5,17 +5,18 @@ ghost use Rattle.tensor.specs.Tensor.{direction_decision};
 ghost use Rattle.raster.specs.Direction.{from_angle};
 ghost use Rattle.smear_c.specs.Direction.{snapped_index, direction_outs};
 
-use raster::direction::{RasterDirection4, SnappedDirection};
-use tensor::direction::DirectionAnswer;
-use tensor::estimate_line_direction;
+use crate::number_of;
+use image::Gray8View;
+use raster::direction::RasterDirection4;
+use tensor::direction::estimate_line_direction;
 
 #[unsafe(no_mangle)]
 pub extern "C" fn smear_direction_from_angle(angle: f64) -> u8
     ensures { result ≡ snapped_index (from_angle angle) }
 {
     match RasterDirection4::from_angle(angle) {
-        SnappedDirection::Found(direction) => direction.index(),
-        SnappedDirection::Nothing => 4,
+        Some(direction) => direction.index(),
+        None => 4,
     }
 }
 
@@ -35,18 +36,12 @@ pub extern "C" fn smear_estimate_line_direction(
         (record { direction = direction.exit.now; a = a.new; c = c.new; e = e.new })
         result }
 {
-    match estimate_line_direction(src, width, height, stride) {
-        DirectionAnswer::Direction(d) => {
-            let axis = d.direction;
-            let sum_a = d.a;
-            let sum_c = d.c;
-            let sum_e = d.e;
-            *direction = axis.index();
-            *a = sum_a;
-            *c = sum_c;
-            *e = sum_e;
-            0
-        }
-        DirectionAnswer::Refused(number) => number,
+    let answer = estimate_line_direction(Gray8View::new(src, width, height, stride));
+    if let Ok(estimate) = answer {
+        *direction = estimate.direction.index();
+        *a = estimate.sums.a;
+        *c = estimate.sums.c;
+        *e = estimate.sums.e;
     }
+    number_of(answer)
 }

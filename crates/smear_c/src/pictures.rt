@@ -3,7 +3,8 @@ ghost use Rattle.image.specs.Call.{gray8, Returns};
 ghost use Rattle.pgm.specs.Read.{read_decision};
 ghost use Rattle.smear_c.specs.Pictures.{picture_outs, outs, PgmWrittenC};
 
-use pgm::{PgmAnswer, WriteAnswer, read, write};
+use crate::number_of;
+use image::Gray8View;
 
 #[unsafe(no_mangle)]
 pub extern "C" fn smear_read_pgm(
@@ -16,15 +17,13 @@ pub extern "C" fn smear_read_pgm(
         (outs width.old height.old start.old)
         (outs width.new height.new start.new) result }
 {
-    match read(file) {
-        PgmAnswer::Picture(picture) => {
-            *width = picture.width;
-            *height = picture.height;
-            *start = picture.start;
-            0
-        }
-        PgmAnswer::Refused(number) => number,
+    let answer = pgm::read(file);
+    if let Ok(picture) = answer {
+        *width = picture.width;
+        *height = picture.height;
+        *start = picture.start;
     }
+    number_of(answer)
 }
 
 #[unsafe(no_mangle)]
@@ -39,11 +38,9 @@ pub extern "C" fn smear_write_pgm(
     ensures { PgmWrittenC (gray8 src.now width height stride)
         out.old out.new written.old written.new result }
 {
-    match write(src, width, height, stride, out) {
-        WriteAnswer::Written(n) => {
-            *written = n;
-            0
-        }
-        WriteAnswer::Refused(number) => number,
+    let answer = pgm::write(Gray8View::new(src, width, height, stride), out);
+    if let Ok(n) = answer {
+        *written = n;
     }
+    number_of(answer)
 }

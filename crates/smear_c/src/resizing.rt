@@ -2,6 +2,9 @@
 ghost use Rattle.image.specs.Call.{gray8};
 ghost use Rattle.smear_c.specs.Resizing.{BoxHalvedC, HalvedC};
 
+use crate::number_of;
+use image::{Gray8View, Gray8ViewMut};
+
 #[unsafe(no_mangle)]
 pub extern "C" fn smear_box_downscale_half(
     src: &[u8],
@@ -16,10 +19,9 @@ pub extern "C" fn smear_box_downscale_half(
     ensures { BoxHalvedC (gray8 src.now width height stride)
         (gray8 dst.old dst_width dst_height dst_stride) dst.new result }
 {
-    resize::box_downscale_half(
-        src, width, height, stride, dst, dst_width, dst_height, dst_stride,
-    )
-    .number()
+    let from = Gray8View::new(src, width, height, stride);
+    let to = Gray8ViewMut::new(dst, dst_width, dst_height, dst_stride);
+    number_of(resize::box_downscale_half(from, to))
 }
 
 #[unsafe(no_mangle)]
@@ -39,8 +41,7 @@ pub extern "C" fn smear_halve(
         (gray8 dst.old dst_width dst_height dst_stride)
         dst.new scratch.old scratch.new result }
 {
-    resize::halve(
-        src, width, height, stride, dst, dst_width, dst_height, dst_stride, count, scratch,
-    )
-    .number()
+    let from = Gray8View::new(src, width, height, stride);
+    let to = Gray8ViewMut::new(dst, dst_width, dst_height, dst_stride);
+    number_of(resize::halve(from, to, count, scratch))
 }

@@ -1,12 +1,13 @@
 // Restoration and line unsharp for C.
 ghost use Rattle.std.specs.Prelude.{◌≡◌};
-ghost use Rattle.image.specs.Call.{gray8, Returns};
+ghost use Rattle.image.specs.Call.{gray8};
 ghost use Rattle.deblur.specs.Settings.{restoration_of, unsharp_of};
-ghost use Rattle.raster.specs.Direction.{direction_index};
-ghost use Rattle.smear_c.specs.Restoration.{restoration_config, unsharp_config, decision_of, FilteredC};
+ghost use Rattle.smear_c.specs.Restoration.{restoration_config, unsharp_config, FilteredC};
 ghost use Rattle.smear_c.specs.Restoration.{EstimateWrittenC};
 
-use deblur::{DirectionalUnsharpConfig, RestorationAnswer, VanCittertConfig};
+use crate::number_of;
+use deblur::{DirectionalUnsharpConfig, VanCittertConfig};
+use image::{Gray8View, Gray8ViewMut};
 use raster::border::LineBorderMode;
 
 fn restoration_config(
@@ -25,37 +26,6 @@ fn restoration_config(
         iterations,
         relaxation,
         border: LineBorderMode::from_code(border, value),
-    }
-}
-
-fn unsharp_config(
-    angle: f64,
-    blur_length: usize,
-    gain: f64,
-    border: u8,
-    value: u8,
-) -> DirectionalUnsharpConfig
-    ensures { result ≡ unsharp_config angle blur_length gain border value }
-{
-    DirectionalUnsharpConfig {
-        theta_radians: angle,
-        blur_length,
-        gain,
-        border: LineBorderMode::from_code(border, value),
-    }
-}
-
-// 0 and the direction's number, or the refusal's number.
-fn answer_c(answer: RestorationAnswer, direction: &mut u8) -> u8
-    ensures { Returns (decision_of answer) direction_index direction.old direction.new result }
-{
-    match answer {
-        RestorationAnswer::Done(metadata) => {
-            let axis = metadata.raster_direction;
-            *direction = axis.index();
-            0
-        }
-        RestorationAnswer::Refused(number) => number,
     }
 }
 
@@ -84,6 +54,8 @@ pub extern "C" fn smear_van_cittert_line(
         (restoration_config angle blur_length iterations relaxation border border_value))
         scratch.old scratch.new direction.old direction.new result }
 {
+    let from = Gray8View::new(src, width, height, stride);
+    let to = Gray8ViewMut::new(dst, dst_width, dst_height, dst_stride);
     let config = restoration_config(
         angle,
         blur_length,
@@ -92,10 +64,11 @@ pub extern "C" fn smear_van_cittert_line(
         border,
         border_value,
     );
-    let answer = deblur::van_cittert_line_into(
-        src, width, height, stride, dst, dst_width, dst_height, dst_stride, config, scratch,
-    );
-    answer_c(answer, direction)
+    let answer = deblur::van_cittert_line_into(from, to, config, scratch);
+    if let Ok(done) = answer {
+        *direction = done.raster_direction.index();
+    }
+    number_of(answer)
 }
 
 #[unsafe(no_mangle)]
@@ -119,6 +92,7 @@ pub extern "C" fn smear_van_cittert_estimate(
         (restoration_of (restoration_config angle blur_length iterations relaxation border border_value))
         scratch.old scratch.new direction.old direction.new result }
 {
+    let from = Gray8View::new(src, width, height, stride);
     let config = restoration_config(
         angle,
         blur_length,
@@ -127,10 +101,11 @@ pub extern "C" fn smear_van_cittert_estimate(
         border,
         border_value,
     );
-    let answer = deblur::van_cittert_estimate_into(
-        src, width, height, stride, dst, config, scratch,
-    );
-    answer_c(answer, direction)
+    let answer = deblur::van_cittert_estimate_into(from, dst, config, scratch);
+    if let Ok(done) = answer {
+        *direction = done.raster_direction.index();
+    }
+    number_of(answer)
 }
 
 #[unsafe(no_mangle)]
@@ -156,9 +131,17 @@ pub extern "C" fn smear_directional_unsharp_line(
         dst.new (unsharp_of (unsharp_config angle blur_length gain border border_value))
         scratch.old scratch.new direction.old direction.new result }
 {
-    let config = unsharp_config(angle, blur_length, gain, border, border_value);
-    let answer = deblur::directional_unsharp_line_into(
-        src, width, height, stride, dst, dst_width, dst_height, dst_stride, config, scratch,
-    );
-    answer_c(answer, direction)
+    let from = Gray8View::new(src, width, height, stride);
+    let to = Gray8ViewMut::new(dst, dst_width, dst_height, dst_stride);
+    let config = DirectionalUnsharpConfig {
+        theta_radians: angle,
+        blur_length,
+        gain,
+        border: LineBorderMode::from_code(border, border_value),
+    };
+    let answer = deblur::directional_unsharp_line_into(from, to, config, scratch);
+    if let Ok(done) = answer {
+        *direction = done.raster_direction.index();
+    }
+    number_of(answer)
 }

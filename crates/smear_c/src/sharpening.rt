@@ -2,6 +2,9 @@
 ghost use Rattle.image.specs.Call.{gray8};
 ghost use Rattle.smear_c.specs.Sharpening.{SharpenedC};
 
+use crate::number_of;
+use image::{Gray8View, Gray8ViewMut};
+
 #[unsafe(no_mangle)]
 pub extern "C" fn smear_fixed_binomial_unsharp(
     src: &[u8],
@@ -18,8 +21,7 @@ pub extern "C" fn smear_fixed_binomial_unsharp(
         (gray8 dst.old dst_width dst_height dst_stride)
         dst.new scratch.old scratch.new result }
 {
-    sharpen::fixed_binomial_unsharp_into(
-        src, width, height, stride, dst, dst_width, dst_height, dst_stride, scratch,
-    )
-    .number()
+    let from = Gray8View::new(src, width, height, stride);
+    let to = Gray8ViewMut::new(dst, dst_width, dst_height, dst_stride);
+    number_of(sharpen::fixed_binomial_unsharp_into(from, to, scratch))
 }

@@ -3,7 +3,8 @@ ghost use Rattle.std.specs.Prelude.{◌≡◌, ◌+◌, ◌≤◌, length};
 ghost use Rattle.std.proofs.lemmas.List.Edits.{sets};
 ghost use Rattle.smear_c.specs.Sheet.{sheet_length, direction_numbers, sheet_numbers, leaves, summarized_c};
 
-use summary::{DirectionSummary, RecordSummary, SummaryAnswer, summarize};
+use image::Refusal;
+use summary::{DirectionSummary, RecordSummary, summarize};
 
 // How many numbers a sheet has.
 const NUMBERS: usize = 21;
@@ -41,16 +42,16 @@ pub extern "C" fn smear_summarize(records: &[u8], sheet: &mut [u64], index: &mut
         ≡ summarized_c records.now sheet.old index.old }
 {
     if sheet.len() < NUMBERS {
-        return 10;
+        return Refusal::LentTooSmall.number();
     }
     match summarize(records) {
-        SummaryAnswer::Summary(summary) => {
+        Ok(summary) => {
             put_summary(summary, sheet);
             0
         }
-        SummaryAnswer::Refused(number, first) => {
-            *index = first;
-            number
+        Err(fault) => {
+            *index = fault.index;
+            fault.refusal().number()
         }
     }
 }

@@ -10,7 +10,7 @@ use lib.Dec.{ltb}
 use lib.Ieee.{Float}
 use lib.ListN.{length}
 use Rattle.numbers.proofs.Test.{false_not_true, or_false_intro}
-use Rattle.image.specs.Call.{Decision, gray8, accepts, refuses, decided, number_of}
+use Rattle.image.specs.Call.{Decision, gray8, accepts, refuses, decided, map_found, number_of}
 use Rattle.image.specs.Refusal.{pair_refusal}
 use Rattle.image.proofs.Call.{number_decided}
 use Rattle.image.proofs.Pair.{laid_pair}
@@ -29,7 +29,6 @@ use Rattle.record.specs.declared.RecordFilter.{RecordFilter}
 use Rattle.record.specs.declared.RecordFilter.TheVariants.{WholeJob, Restoration, Unsharp, Binomial}
 use Rattle.smear_run.specs.Stage.{
   Made,
-  makes,
   most_pixels,
   line_scratch,
   record_restoration,
@@ -46,13 +45,13 @@ use Rattle.smear_run.specs.Stage.{
 }
 use Rattle.smear_run.proofs.Stages.{stage_job, stage_restoration, stage_unsharp, stage_binomial}
 
-number_makes : {R : Type 0} (f : R → Made) (d : Decision R) → number_of (makes f d) ≡ number_of d
-number_makes f (accepts found) = refl
-number_makes f (refuses number) = refl
+number_made : {R : Type 0} (f : R → Made) (d : Decision R) → number_of (map_found f d) ≡ number_of d
+number_made f (accepts found) = refl
+number_made f (refuses number) = refl
 
 -- the number of what was decided
-made_10 : {R : Type 0} (f : R → Made) (d : Decision R) {n : ℕ} → number_of d ≡ n → makes f d ≡ refuses 10 → n ≡ 10
-made_10 f d is e = sym (number_makes f d ∙ is) ∙ ap number_of e
+made_10 : {R : Type 0} (f : R → Made) (d : Decision R) {n : ℕ} → number_of d ≡ n → map_found f d ≡ refuses 10 → n ≡ 10
+made_10 f d is e = sym (number_made f d ∙ is) ∙ ap number_of e
 
 module _ (r : Record) (picture : List ℕ) where
   abbrev w : ℕ
@@ -96,14 +95,14 @@ module _ (r : Record) (picture : List ℕ) where
     pub never_17 : whole_job r relaxation picture ≡ refuses 17 → ⊥
     never_17 e =
         let config = record_job r relaxation in
-        let told = number_makes (job_made r config picture) (planned picture w h (w * h) config line_scratch) in
+        let told = number_made (job_made r config picture) (planned picture w h (w * h) config line_scratch) in
         without_17 job (ap number_of (sym no_floor) ∙ sym told ∙ ap number_of e)
 
   module _ (small : w * h ≤ most_pixels) where
     job-never : (relaxation : Float) → whole_job r relaxation picture ≡ refuses 10 → ⊥
     job-never relaxation e =
         let config = record_job r relaxation in
-        let told = number_makes (job_made r config picture) (planned picture w h (w * h) config line_scratch) in
+        let told = number_made (job_made r config picture) (planned picture w h (w * h) config line_scratch) in
         let a = plan_ten _ (sym told ∙ ap number_of e) in
         false_not_true (or_false_intro (line-enough a.0) (le-ltb most_pixels (w * h) small)) a.1
 

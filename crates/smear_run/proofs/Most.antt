@@ -12,8 +12,6 @@ use Rattle.image.specs.Picture.{pixels_of}
 use Rattle.image.proofs.Tight.{length_pixels}
 use Rattle.record.specs.Record.{record_fields, write_bytes, read_record, is_job}
 use Rattle.record.specs.declared.Record.{Record}
-use Rattle.record.specs.declared.ReadAnswer.{ReadAnswer}
-use Rattle.record.specs.declared.ReadAnswer.TheVariants as read
 use Rattle.record.proofs.Answer.{record_bytes_most}
 use Rattle.smear_run.specs.Stage.{Made, stage}
 use Rattle.smear_run.specs.Output.{refused_text, printed, job_output, output_of, output}
@@ -49,6 +47,6 @@ pub output_most : (job picture : List ℕ) → length (output job picture) ≤ 4
 unfolding output
 output_most job picture = go (read_record job)
   where
-    go : (z : ReadAnswer) → length (output_of z picture) ≤ 4128
-    go (read.Record r) = job_most r picture
-    go (read.Refused number) = text_most number
+    go : (z : Decision Record) → length (output_of z picture) ≤ 4128
+    go (accepts r) = job_most r picture
+    go (refuses number) = text_most number

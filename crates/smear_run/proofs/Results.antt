@@ -7,9 +7,8 @@ use Prim.Native.Nat.{ℕ, zero, suc, ◌*◌, ◌≤◌}
 use native.Mathlib.Omega.{arith}
 use lib.Ieee.{Float}
 use lib.ListN.{length}
+use Rattle.std.specs.Prelude.{Option, Some, None}
 use Rattle.raster.specs.declared.direction.RasterDirection4.{RasterDirection4}
-use Rattle.raster.specs.declared.direction.SnappedDirection.{SnappedDirection}
-use Rattle.raster.specs.declared.direction.SnappedDirection.TheVariants.{Found, Nothing}
 use Rattle.deblur.specs.Calls.{decided_along}
 use Rattle.deblur.specs.Refusal.{filter_refusal, LengthTaken}
 use Rattle.deblur.specs.Settings.{LineFilter, restoration_of, unsharp_of}
@@ -17,18 +16,16 @@ use Rattle.deblur.proofs.Refusals.{restoration_taken, unsharp_taken, filter_acce
 use Rattle.sharpen.specs.Call.{binomial_refusal}
 use Rattle.job.specs.declared.JobResult.{JobResult}
 use Rattle.job.proofs.Plans.{plan_length_holds, plan_estimate}
-use Rattle.image.specs.Call.{Decision, accepts, refuses, decided}
+use Rattle.image.specs.Call.{Decision, accepts, refuses, decided, map_found}
 use Rattle.image.specs.Picture.{pixels_of}
 use Rattle.record.specs.Record.{filter_code, record_fields, write_number, write_bytes, read_record, is_job}
 use Rattle.record.specs.declared.Record.{Record}
-use Rattle.record.specs.declared.ReadAnswer.TheVariants as read
 use Rattle.record.specs.declared.RecordFilter.{RecordFilter}
 use Rattle.record.specs.declared.RecordFilter.TheVariants.{WholeJob, Restoration, Unsharp, Binomial}
 use Rattle.record.proofs.Answer.{record_bytes}
 use Rattle.record.proofs.Results.{length_legal_lem, estimate_legal_lem, job_estimate, used_written, binomial_written}
 use Rattle.smear_run.specs.Stage.{
   Made,
-  makes,
   record_restoration,
   record_unsharp,
   record_job,
@@ -53,18 +50,18 @@ Written (refuses number) = Unit {0}
 
 decided_written : {R : Type 0} (f : R → Made) (n : ℕ) (found : R)
     → (n ≡ 0 → write_number (record_fields (f found).result) ≡ 0)
-    → Written (makes f (decided n found))
+    → Written (map_found f (decided n found))
 decided_written f zero found h = h refl
 decided_written f (suc n) found h = tt
 
 -- .. along the direction that an angle snaps to
-along_written : (f : RasterDirection4 → Made) (n : ℕ) (s : SnappedDirection)
+along_written : (f : RasterDirection4 → Made) (n : ℕ) (s : Option RasterDirection4)
     → ((d : RasterDirection4) → n ≡ 0 → write_number (record_fields (f d).result) ≡ 0)
-    → Written (makes f (decided_along n s))
-along_written f n (Found d) h = decided_written f n d (h d)
-along_written f n Nothing h = tt
+    → Written (map_found f (decided_along n s))
+along_written f n (Some d) h = decided_written f n d (h d)
+along_written f n None h = tt
 
-module _ (bytes : List ℕ) (r : Record) (reads : read_record bytes ≡ read.Record r)
+module _ (bytes : List ℕ) (r : Record) (reads : read_record bytes ≡ accepts r)
     (is_job_holds : is_job r ≡ true) (picture : List ℕ) where
   line-written : (f : LineFilter) → (f.refusal r.width r.height ≡ 0
       → LengthTaken r.width r.height r.blur_length)
@@ -86,7 +83,7 @@ module _ (bytes : List ℕ) (r : Record) (reads : read_record bytes ≡ read.Rec
     where
       go : (d : Decision JobResult)
           → planned picture r.width r.height (r.width * r.height) (record_job r relaxation) line_scratch ≡ d
-          → Written (makes (job_made r (record_job r relaxation) picture) d)
+          → Written (map_found (job_made r (record_job r relaxation) picture) d)
       go (accepts result) e =
           let t = plan_length_holds _ e in
           let p = plan_estimate _ e in

@@ -1,35 +1,32 @@
 -- What the filters answer, as decisions of the stage; and what it decided, by their answer.
-use mathlib.Core.Path.{◌≡◌, refl, sym, ap, ◌∙◌}
+use mathlib.Core.Path.{◌≡◌, refl, sym, ap, subst, ◌∙◌}
 use mathlib.Core.List.{List}
 use Prim.Native.Nat.{ℕ, ◌*◌, ◌<◌}
-use native.Mathlib.Nat.{le_of_lt, mul-le-mul_left, mul-le-mul_right}
 use native.Mathlib.Omega.{arith}
-use mir.Syntax.{w64}
-use mir.Val.{Fits}
 use lib.IntN.{ℤ}
 use lib.Ieee.{Float}
 use lib.ListN.{length}
-use Rattle.image.specs.Call.{gray8, Decision, accepts, refuses, Outcome}
-use Rattle.image.proofs.Call.{outcome_accepted, outcome_refused}
+use Rattle.std.specs.Prelude.{Result, Ok, Err}
+use Rattle.image.specs.Call.{Decision, accepts, refuses, told, map_found, Outcome}
+use Rattle.image.specs.declared.refusal.Refusal.{Refusal}
+use Rattle.image.proofs.Call.{accepts_not_refuses, outcome_accepted, outcome_refused}
 use Rattle.raster.specs.declared.direction.RasterDirection4.{RasterDirection4}
 use Rattle.swings.specs.declared.Swing.{Swing}
 use Rattle.deblur.specs.Calls as calls
 use Rattle.deblur.specs.Settings.{LineFilter, restoration_of, unsharp_of}
-use Rattle.deblur.specs.declared.RestorationAnswer.{RestorationAnswer}
+use Rattle.deblur.specs.declared.RestorationMetadata.{RestorationMetadata}
 use Rattle.sharpen.specs.Call as sharpening
-use Rattle.sharpen.specs.declared.SharpenAnswer.{SharpenAnswer}
-use Rattle.job.specs.Job.{Job, plan, job_answer, Restored}
-use Rattle.job.specs.declared.JobAnswer.{JobAnswer}
-use Rattle.job.specs.declared.JobAnswer.TheVariants as job
+use Rattle.job.specs.Job.{Job, plan, Restored}
 use Rattle.job.specs.declared.JobConfig.{JobConfig}
 use Rattle.job.specs.declared.JobResult.{JobResult}
-use Rattle.job.proofs.Plans.{job_decided_lem, plan_accepted, plan_length_holds}
+use Rattle.job.proofs.Plans.{plan_accepted, plan_length_holds}
 use Rattle.record.specs.declared.Record.{Record}
 use Rattle.record.specs.declared.RecordFilter.TheVariants.{WholeJob, Restoration, Unsharp, Binomial}
 use Rattle.smear_run.specs.Stage.{
   Made,
-  makes,
   tight,
+  with_direction,
+  job_result,
   record_restoration,
   record_unsharp,
   record_job,
@@ -42,81 +39,131 @@ use Rattle.smear_run.specs.Stage.{
   binomial_stage,
   stage,
 }
-use Rattle.smear_run.specs.Parts.{
-  line_answer,
-  measured_answer,
-  binomial_answer,
-  filter_answer,
-  FilterWrites,
-  Filtered,
-  Measured,
-}
-use Rattle.smear_run.specs.declared.filters.FilterAnswer.{FilterAnswer}
-use Rattle.smear_run.specs.declared.filters.FilterAnswer.TheVariants.{Done, Refused}
+use Rattle.smear_run.specs.Parts.{result_of, FilterWrites, Filtered}
 
-module _ (r : Record) (old new : List ℕ) (answer : FilterAnswer) where
-  -- a call's outcome, as the filter's: `tells` is its answer's part in the filter's
-  filtered-by : {R A S : Type 0} {decision : Decision R} {answers : Decision R → A} {scratch scratch' : S} {a : A}
-      (f : R → Made) (tells : A → FilterAnswer) → ((d : Decision R) → tells (answers d) ≡ filter_answer (makes f d))
-      → Outcome decision answers (λ found. FilterWrites r (f found)) old new scratch scratch' a → answer ≡ tells a
-      → Filtered (makes f decision) r old new answer
-  filtered-by {R} {decision = decision} {answers} f tells told o e = go decision refl
-    where
-      go : (d : Decision R) → decision ≡ d → Filtered (makes f decision) r old new answer
-      go (accepts found) is =
-          outcome_accepted filter_answer (FilterWrites r) old tt (f found) new tt (ap (makes f) is)
-          (e ∙ ap tells (o.answered ∙ ap answers is) ∙ told (accepts found)) (o.written found is)
-      go (refuses number) is =
-          rw (o.dst_kept number is)
-          (outcome_refused filter_answer (FilterWrites r) old tt number (ap (makes f) is)
-          (e ∙ ap tells (o.answered ∙ ap answers is) ∙ told (refuses number)))
+-- a call's outcome, as the filter's: `f` is what the filter makes of what was found
+filtered-by : (r : Record) {R A S : Type 0} {decision : Decision R} {answers : Decision R → A} (f : R → Made)
+    {old new : List ℕ} {scratch scratch' : S} {a : A} (answer : Result Record Refusal)
+    → Outcome decision answers (λ found. FilterWrites r (f found)) old new scratch scratch' a
+    → told answer ≡ map_found result_of (map_found f decision) → Filtered (map_found f decision) r old new answer
+filtered-by r {R} {decision = decision} f {old} {new} answer o e = go decision refl
+  where
+    go : (d : Decision R) → decision ≡ d → Filtered (map_found f decision) r old new answer
+    go (accepts found) is =
+        outcome_accepted (map_found result_of) (FilterWrites r) old tt (f found) new tt (ap (map_found f) is)
+        (e ∙ ap (λ (d : Decision R). map_found result_of (map_found f d)) is) (o.written found is)
+    go (refuses number) is =
+        rw (o.dst_kept number is)
+        (outcome_refused (map_found result_of) (FilterWrites r) old tt number (ap (map_found f) is)
+        (e ∙ ap (λ (d : Decision R). map_found result_of (map_found f d)) is))
 
-  line-told : (f : LineFilter) (picture : List ℕ) (d : Decision RasterDirection4)
-      → line_answer r (calls.restoration_answer d) ≡ filter_answer (makes (line_made r f picture) d)
-  line-told f picture (accepts d) = refl
-  line-told f picture (refuses number) = refl
+-- what a view held is what the slice that it borrows holds
+pub moved : {decision : Decision Made} (r : Record) {old new new' : List ℕ} {shown : Decision Record} → new ≡ new'
+    → Outcome decision (map_found result_of) (FilterWrites r) old new (tt {0}) (tt {0}) shown
+    → Outcome decision (map_found result_of) (FilterWrites r) old new' (tt {0}) (tt {0}) shown
+moved {decision} r {old} {shown = shown} e h =
+    subst (λ (n : List ℕ). Outcome decision (map_found result_of) (FilterWrites r) old n (tt {0}) (tt {0}) shown) e h
 
-  pub line_filtered : (picture : List ℕ) {f f' : LineFilter} {scratch scratch' : List ℤ} {a : RestorationAnswer}
-      → f ≡ f' → length old ≡ r.width * r.height → length scratch ≡ line_scratch
-      → calls.Filtered (tight r picture) (tight r old) new f scratch scratch' a
-      → answer ≡ line_answer r a → Filtered (line_stage r f' picture) r old new answer
-  line_filtered picture {f} ef el ek o e =
-      rw (← ef, ← el, ← ek) (filtered-by (line_made r f picture) (line_answer r) (line-told f picture) o e)
+-- a refusal is handed on, whatever a call says of what it found
+handed-on : {R T : Type 0} (g : R → T) (f : R → Made) (d : Decision R) {n : ℕ} → refuses n ≡ map_found g d
+    → refuses n ≡ map_found result_of (map_found f d)
+handed-on g f (accepts found) e = absurd (accepts_not_refuses (sym e))
+handed-on g f (refuses number) e = cc
 
-  binomial-told : (picture : List ℕ) (d : Decision (Unit {0}))
-      → binomial_answer r (sharpening.sharpen_answer d) ≡ filter_answer (makes (binomial_made r picture) d)
-  binomial-told picture (accepts found) = refl
-  binomial-told picture (refuses number) = refl
+refused-on : {R : Type 0} (f : R → Made) (d : Decision R) {n : ℕ} → refuses n ≡ d
+    → refuses n ≡ map_found result_of (map_found f d)
+refused-on {R} f d e = ap (λ (d : Decision R). map_found result_of (map_found f d)) e
 
-  pub binomial_filtered : (picture : List ℕ) {scratch scratch' : List ℕ} {a : SharpenAnswer}
-      → length old ≡ r.width * r.height → length scratch ≡ 4096
-      → sharpening.Sharpened (tight r picture) (tight r old) new scratch scratch' a
-      → answer ≡ binomial_answer r a → Filtered (binomial_stage r picture) r old new answer
-  binomial_filtered picture el ek o e =
-      rw (← el, ← ek) (filtered-by (binomial_made r picture) (binomial_answer r) (binomial-told picture) o e)
+line-done : (r : Record) (f : LineFilter) (picture : List ℕ) (d : Decision RasterDirection4) {done : RestorationMetadata}
+    {result : Record} → accepts done ≡ map_found calls.metadata_of d → result ≡ with_direction r done.raster_direction
+    → accepts result ≡ map_found result_of (map_found (line_made r f picture) d)
+line-done r f picture (accepts d) {done} e is =
+    let same : done ≡ calls.metadata_of d = cc in
+    ap accepts (is ∙ ap (λ (m : RestorationMetadata). with_direction r m.raster_direction) same)
+line-done r f picture (refuses number) e is = absurd (accepts_not_refuses e)
 
-  job_told : (config : JobConfig) (picture : List ℕ) (d : Decision JobResult)
-      → measured_answer r (job_answer d) ≡ filter_answer (makes (job_made r config picture) d)
-  job_told config picture (accepts result) = refl
-  job_told config picture (refuses number) = refl
+binomial-done : (r : Record) (picture : List ℕ) (d : Decision (Unit {0})) → accepts tt ≡ d
+    → accepts r ≡ map_found result_of (map_found (binomial_made r picture) d)
+binomial-done r picture (accepts found) e = refl
+binomial-done r picture (refuses number) e = absurd (accepts_not_refuses e)
 
-  pub job_filtered : (picture : List ℕ) (relaxation : Float) {config : JobConfig} {k : ℕ} {a : JobAnswer}
-      → config ≡ record_job r relaxation → length old ≡ r.width * r.height → k ≡ line_scratch
-      → Measured picture r.width r.height config k old new a
-      → answer ≡ measured_answer r a → Filtered (whole_job r relaxation picture) r old new answer
-  job_filtered picture relaxation {config} ec el ek m e =
-      rw (← ec, ← el, ← ek) (filtered-by (job_made r config picture) (measured_answer r) (job_told config picture) m e)
+job-done : (r : Record) (config : JobConfig) (picture : List ℕ) (d : Decision JobResult) {done : JobResult} {result : Record}
+    → accepts done ≡ d → result ≡ job_result r done
+    → accepts result ≡ map_found result_of (map_found (job_made r config picture) d)
+job-done r config picture (accepts d) {done} e is =
+    let same : done ≡ d = cc in ap accepts (is ∙ ap (job_result r) same)
+job-done r config picture (refuses number) e is = absurd (accepts_not_refuses e)
+
+-- each call is on tight pictures of the record's sides
+module _ (r : Record) (picture : List ℕ) {old new : List ℕ} (room : length old ≡ r.width * r.height) where
+  module _ (f : LineFilter) {scratch scratch' : List ℤ} (a : Result RestorationMetadata Refusal)
+      (ek : length scratch ≡ line_scratch)
+      (o : calls.Filtered (tight r picture) (tight r old) new f scratch scratch' a) where
+    pub line_refused : {refusal : Refusal} → a ≡ Err refusal
+        → Filtered (line_stage r f picture) r old new (Err refusal)
+    line_refused {refusal} is =
+        rw (← room, ← ek)
+        (filtered-by r (line_made r f picture) (Err refusal) o
+        (handed-on calls.metadata_of (line_made r f picture) _ (sym (ap told is) ∙ o.answered)))
+
+    pub line_filtered : {done : RestorationMetadata} {result : Record} → a ≡ Ok done
+        → result ≡ with_direction r done.raster_direction
+        → Filtered (line_stage r f picture) r old new (Ok result)
+    line_filtered {result = result} is e =
+        rw (← room, ← ek)
+        (filtered-by r (line_made r f picture) (Ok result) o
+        (line-done r f picture _ (sym (ap told is) ∙ o.answered) e))
+
+  module _ {scratch scratch' : List ℕ} (a : Result (Unit {0}) Refusal) (ek : length scratch ≡ 4096)
+      (o : sharpening.Sharpened (tight r picture) (tight r old) new scratch scratch' a) where
+    pub binomial_refused : {refusal : Refusal} → a ≡ Err refusal
+        → Filtered (binomial_stage r picture) r old new (Err refusal)
+    binomial_refused {refusal} is =
+        rw (← room, ← ek)
+        (filtered-by r (binomial_made r picture) (Err refusal) o
+        (refused-on (binomial_made r picture) _ (sym (ap told is) ∙ o.answered)))
+
+    pub binomial_filtered : a ≡ Ok tt → Filtered (binomial_stage r picture) r old new (Ok r)
+    binomial_filtered is =
+        rw (← room, ← ek)
+        (filtered-by r (binomial_made r picture) (Ok r) o (binomial-done r picture _ (sym (ap told is) ∙ o.answered)))
+
+  module _ (relaxation : Float) {config : JobConfig} {scratch scratch' : List ℤ} {swings swings' : List Swing}
+      (a : Result JobResult Refusal) (ec : config ≡ record_job r relaxation) (ek : length scratch ≡ line_scratch)
+      (es : length swings ≡ 4096)
+      (o : Restored (tight r picture) (tight r old) new config scratch scratch' swings swings' a) where
+    pub job_refused : {refusal : Refusal} → a ≡ Err refusal
+        → Filtered (whole_job r relaxation picture) r old new (Err refusal)
+    job_refused {refusal} is =
+        rw (← ec, ← room, ← ek, ← es)
+        (filtered-by r (job_made r config picture) (Err refusal) o
+        (refused-on (job_made r config picture) _ (sym (ap told is) ∙ o.answered)))
+
+    pub job_filtered : {done : JobResult} {result : Record} → a ≡ Ok done → result ≡ job_result r done
+        → Filtered (whole_job r relaxation picture) r old new (Ok result)
+    job_filtered {result = result} is e =
+        rw (← ec, ← room, ← ek, ← es)
+        (filtered-by r (job_made r config picture) (Ok result) o
+        (job-done r config picture _ (sym (ap told is) ∙ o.answered) e))
+
+-- a measured blur length is a record's
+pub measured_short : (j : Job) (a : Result JobResult Refusal) {done : JobResult} → told a ≡ plan j → a ≡ Ok done
+    → done.blur_length < 65536
+measured_short j a is e =
+    let p = sym is ∙ ap told e in
+    let s = (plan_accepted j p).runnable.pictures.source in
+    let l = plan_length_holds j p in
+    let w = s.width_most in
+    let h = s.height_most in
+    let b = l.most in
+    omega arith
 
 -- ---- what the stage decided, by the filter's answer
 
-pub done_accepts : (d : Decision Made) {result : Record} → Done result ≡ filter_answer d
+pub done_accepts : (d : Decision Made) {result : Record} → accepts result ≡ map_found result_of d
     → (m : Made) × ((d ≡ accepts m) × (result ≡ m.result))
 done_accepts (accepts m) e = (m, (refl, cc))
-done_accepts (refuses number) e = absurd (let z : ◌≡◌ {A = ℕ} 0 1 = cc in omega arith)
-
-pub refused_refuses : (d : Decision Made) {number : ℕ} → Refused number ≡ filter_answer d → d ≡ refuses number
-refused_refuses (accepts m) e = absurd (let z : ◌≡◌ {A = ℕ} 0 1 = cc in omega arith)
-refused_refuses (refuses k) {number} e = let same : k ≡ number = cc in ap refuses same
+done_accepts (refuses number) e = absurd (accepts_not_refuses e)
 
 -- ---- which filter it is
 
@@ -137,36 +184,3 @@ module _ (r : Record) (picture : List ℕ) {x : Float} where
 pub stage_binomial : (r : Record) (picture : List ℕ) → r.filter ≡ Binomial → stage r picture ≡ binomial_stage r picture
 unfolding stage
 stage_binomial r picture e = rw e
-
--- what the whole job with 4,096 records says
-pub measured_of : (picture : List ℕ) (width height : ℕ) (config : JobConfig) {scratch scratch' : List ℤ}
-    {swings swings' : List Swing} {old new : List ℕ} {a : JobAnswer} → length swings ≡ 4096
-    → Restored (gray8 picture width height width) (gray8 old width height width) new config scratch
-    scratch' swings swings' a
-    → Measured picture width height config (length scratch) old new a
-measured_of picture width height config e o =
-    record {
-      answered = let p = o.answered in rw e at p;
-      written = let p = o.written in rw e at p;
-      dst_kept = let p = o.dst_kept in rw e at p;
-      scratch_kept = λ _ _ _. refl;
-    }
-
--- a measured blur length is a record's
-pub measured_short : (j : Job) {a : JobAnswer} {result : JobResult} → a ≡ job_answer (plan j) → a ≡ job.Done result
-    → result.blur_length < 65536
-measured_short j is e =
-    let p = job_decided_lem (sym e ∙ is) in
-    let s = (plan_accepted j p).runnable.pictures.source in
-    let l = plan_length_holds j p in
-    let w = s.width_most in
-    let h = s.height_most in
-    let b = l.most in
-    omega arith
-
--- width × height of two 16-bit numbers
-pub area_fits : {w h : ℕ} → w < 65536 → h < 65536 → Fits w64 (w * h)
-area_fits {w} {h} a b = record {
-  fits = let m = mul-le-mul_left w (le_of_lt b) in let n = mul-le-mul_right 65536
-      (le_of_lt a) in omega arith;
-}

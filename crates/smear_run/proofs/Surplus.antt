@@ -9,15 +9,18 @@ use mathlib.Core.Path.{◌≡◌, refl, sym, ap, ap₂, ◌∙◌}
 use borrow.Author.Tests.{leb-true, ltb-true, ltb-false}
 use lib.Dec.{leb, ltb}
 use lib.Ieee.{Float}
+use Rattle.std.specs.Prelude.{Result}
 use lib.ListN.{length, take, length-append, get_or-append}
 use Rattle.numbers.specs.Scalar.{clamp_byte}
 use Rattle.numbers.proofs.Test.{by_test}
-use Rattle.image.specs.Call.{Decision, accepts, refuses, decided}
+use Rattle.image.specs.Call.{Decision, accepts, refuses, decided, map_found}
+use Rattle.image.specs.declared.refusal.Refusal.{Refusal}
 use Rattle.image.specs.Picture.{pixel}
 use Rattle.image.specs.Refusal.{max_side, Laid}
 use Rattle.image.specs.Same.{SamePicture}
 use Rattle.image.proofs.Front.{fronts_alike}
-use Rattle.image.proofs.Refusal.{place_within}
+use Rattle.image.proofs.Told.{told_one}
+use Rattle.image.proofs.Accepted.{place_within}
 use Rattle.image.proofs.Tight.{pixels_same}
 use Rattle.deblur.specs.Calls.{decided_along}
 use Rattle.deblur.specs.Settings.{LineFilter, restoration_of, unsharp_of}
@@ -29,15 +32,12 @@ use Rattle.job.proofs.Same.{plan_same, job_estimate_same}
 use Rattle.record.specs.Fields.{side_legal, head_legal, filter_legal, decoded, legal}
 use Rattle.record.specs.Record.{read_record, record_of, is_job}
 use Rattle.record.specs.declared.Record.{Record}
-use Rattle.record.specs.declared.ReadAnswer.{ReadAnswer}
-use Rattle.record.specs.declared.ReadAnswer.TheVariants as read
 use Rattle.record.specs.declared.RecordFilter.{RecordFilter}
 use Rattle.record.specs.declared.RecordFilter.TheVariants.{WholeJob, Restoration, Unsharp, Binomial}
 use Rattle.record.proofs.Legal.{both}
 use Rattle.record.proofs.RoundTrip.{read_is}
 use Rattle.smear_run.specs.Stage.{
   Made,
-  makes,
   record_restoration,
   record_unsharp,
   record_job,
@@ -55,7 +55,6 @@ use Rattle.smear_run.specs.Stage.{
 }
 use Rattle.smear_run.specs.Output.{then_record, printed, job_output, output_of, output}
 use Rattle.smear_run.specs.Output.{Whole, run_decision, Ran}
-use Rattle.smear_run.specs.declared.RunAnswer.{RunAnswer}
 use Rattle.smear_run.proofs.Printed.{no_job, of_large, of_stage}
 
 -- ---- two runs that print the same, whatever the slices that they write to held
@@ -65,12 +64,14 @@ module _ (job p q : List ℕ) (same : output job p ≡ output job q) where
   run-alike e = rw (e, same)
 
   -- as many bytes are written, or the same refusal given, and the bytes are the same
-  pub ran_alike : {old new old' new' : List ℕ} {answer answer' : RunAnswer} → length old ≡ length old'
+  pub ran_alike : {old new old' new' : List ℕ} {answer answer' : Result ℕ Refusal} → length old ≡ length old'
       → Ran job p old new answer → Ran job q old' new' answer'
       → (answer ≡ answer')
       × ((xs : List ℕ) → run_decision (length old) (output job p) ≡ accepts xs
       → take (length xs) new ≡ take (length xs) new')
-  ran_alike room o o' = fronts_alike (run-alike room) o o'
+  ran_alike {answer = answer} {answer'} room o o' =
+      let alike = fronts_alike (run-alike room) o o' in
+      (told_one answer answer' alike.0, alike.1)
 
 -- ---- two tight pictures that are the same
 
@@ -79,10 +80,10 @@ module _ (r : Record) {p q : List ℕ} (same : SamePicture (tight r p) (tight r 
   made-same : {R : Type 0} (f g : R → Made) {d d' : Decision R} → d ≡ d'
       → ((found : R) → (f found).result ≡ (g found).result)
       → ((found : R) (c y : ℕ) → c < r.width → y < r.height → (f found).pixels c y ≡ (g found).pixels c y)
-      → printed r (makes f d) ≡ printed r (makes g d')
-  made-same {R} f g {d' = d'} e results pixels = ap (λ (d : Decision R). printed r (makes f d)) e ∙ go d'
+      → printed r (map_found f d) ≡ printed r (map_found g d')
+  made-same {R} f g {d' = d'} e results pixels = ap (λ (d : Decision R). printed r (map_found f d)) e ∙ go d'
     where
-      go : (d : Decision R) → printed r (makes f d) ≡ printed r (makes g d)
+      go : (d : Decision R) → printed r (map_found f d) ≡ printed r (map_found g d)
       go (accepts found) =
           let some = same.laid.width_pos in
           ap₂ then_record
@@ -132,7 +133,7 @@ side_within : (n : ℕ) → side_legal n ≡ true → (0 < n) × (n ≤ max_side
 side_within n e = let b = both (leb 1 n) (leb n max_side) e in (leb-true 1 n b.0, leb-true n max_side b.1)
 
 -- a record that was read has sides of a picture, so that a tight one which is long enough is accepted
-module _ (job : List ℕ) (r : Record) (reads : read_record job ≡ read.Record r) where
+module _ (job : List ℕ) (r : Record) (reads : read_record job ≡ accepts r) where
   sides : ((0 < r.width) × (r.width ≤ max_side)) × ((0 < r.height) × (r.height ≤ max_side))
   unfolding legal record_of
   sides =
@@ -180,28 +181,28 @@ module _ (job picture extra : List ℕ) (whole : Whole job picture) where
           → job_output r (picture ++ extra) ≡ job_output r picture
       large r is_job_holds many = of_large r (picture ++ extra) is_job_holds many ∙ sym (of_large r picture is_job_holds many)
 
-      small : (r : Record) → read_record job ≡ read.Record r → is_job r ≡ true → r.width * r.height ≤ most_pixels
+      small : (r : Record) → read_record job ≡ accepts r → is_job r ≡ true → r.width * r.height ≤ most_pixels
           → job_output r (picture ++ extra) ≡ job_output r picture
       small r reads is_job_holds few =
           of_stage r (picture ++ extra) is_job_holds few
           ∙ stage-same r (with-surplus job r reads picture extra (whole r reads is_job_holds few))
           ∙ sym (of_stage r picture is_job_holds few)
 
-      go : (a : ReadAnswer) → read_record job ≡ a → output_of a (picture ++ extra) ≡ output_of a picture
-      go (read.Record r) reads =
+      go : (a : Decision Record) → read_record job ≡ a → output_of a (picture ++ extra) ≡ output_of a picture
+      go (accepts r) reads =
           by_test (is_job r)
           (λ is_job_holds.
           by_test (ltb most_pixels (r.width * r.height))
           (λ t. large r is_job_holds (ltb-true most_pixels (r.width * r.height) t))
           (λ t. small r reads is_job_holds (ltb-false most_pixels (r.width * r.height) t)))
           (λ t. no_job r (picture ++ extra) t ∙ sym (no_job r picture t))
-      go (read.Refused number) reads = refl
+      go (refuses number) reads = refl
 
   pub run_same : {n n' : ℕ} → n ≡ n'
       → run_decision n (output job (picture ++ extra)) ≡ run_decision n' (output job picture)
   run_same = run-alike job (picture ++ extra) picture surplus_ignored
 
-  pub ran_same : {old new old' new' : List ℕ} {answer answer' : RunAnswer} → length old ≡ length old'
+  pub ran_same : {old new old' new' : List ℕ} {answer answer' : Result ℕ Refusal} → length old ≡ length old'
       → Ran job (picture ++ extra) old new answer → Ran job picture old' new' answer'
       → (answer ≡ answer')
       × ((xs : List ℕ) → run_decision (length old) (output job (picture ++ extra)) ≡ accepts xs

@@ -1,14 +1,11 @@
 -- What the program prints (document 01, "The 32-byte record"), as a list of bytes that the bytes of its two files give.
-use Rattle.std.specs.Prelude.{◌≡◌, true, cond, List, [], ◌∷◌, ◌++◌, ℕ, ◌+◌, ◌*◌, ◌/◌, ◌%◌, ◌≤◌, ltb, length}
-use Rattle.image.specs.Call.{Decision, accepts, refuses, room_for, FrontWrites, Outcome}
+use Rattle.std.specs.Prelude.{◌≡◌, true, cond, List, [], ◌∷◌, ◌++◌, ℕ, ◌+◌, ◌*◌, ◌/◌, ◌%◌, ◌≤◌, ltb, length, Result}
+use Rattle.image.specs.Call.{Decision, accepts, refuses, told, map_found, room_for, FrontWrites, Outcome}
+use Rattle.image.specs.declared.refusal.Refusal.{Refusal}
 use Rattle.image.specs.Picture.{pixels_of}
 use Rattle.record.specs.Record.{record_fields, write_bytes, read_record, is_job}
 use Rattle.record.specs.declared.Record.{Record}
-use Rattle.record.specs.declared.ReadAnswer.{ReadAnswer}
-use Rattle.record.specs.declared.ReadAnswer.TheVariants as read
 use Rattle.smear_run.specs.Stage.{most_pixels, Made, stage}
-use Rattle.smear_run.specs.declared.RunAnswer.{RunAnswer}
-use Rattle.smear_run.specs.declared.RunAnswer.TheVariants.{Written, Refused}
 
 -- ---- the texts: "both texts end in a line feed"
 
@@ -40,9 +37,9 @@ job_output r picture =
     cond (is_job r) (cond (ltb most_pixels (r.width * r.height)) too_large (printed r (stage r picture)))
     (refused_text 13)
 
-abbrev pub output_of : ReadAnswer → List ℕ → List ℕ
-output_of (read.Record r) picture = job_output r picture
-output_of (read.Refused number) picture = refused_text number
+abbrev pub output_of : Decision Record → List ℕ → List ℕ
+output_of (accepts r) picture = job_output r picture
+output_of (refuses number) picture = refused_text number
 
 unfoldable pub output : List ℕ → List ℕ → List ℕ
 unfolding job_output
@@ -52,7 +49,7 @@ output job picture = output_of (read_record job) picture
 -- short gives 4, and is longer with surplus bytes.
 abbrev pub Whole : List ℕ → List ℕ → Type 0
 Whole job picture =
-    (r : Record) → read_record job ≡ read.Record r → is_job r ≡ true → r.width * r.height ≤ most_pixels
+    (r : Record) → read_record job ≡ accepts r → is_job r ≡ true → r.width * r.height ≤ most_pixels
     → r.width * r.height ≤ length picture
 
 -- ---- the call
@@ -61,11 +58,8 @@ Whole job picture =
 abbrev pub run_decision : ℕ → List ℕ → Decision (List ℕ)
 run_decision room xs = room_for 10 room xs
 
--- how many bytes are printed
-abbrev pub run_answer : Decision (List ℕ) → RunAnswer
-run_answer (accepts xs) = Written (length xs)
-run_answer (refuses number) = Refused number
-
-abbrev pub Ran : List ℕ → List ℕ → List ℕ → List ℕ → RunAnswer → Type 0
+-- a call answers how many bytes are printed
+abbrev pub Ran : List ℕ → List ℕ → List ℕ → List ℕ → Result ℕ Refusal → Type 0
 Ran job picture old new answer =
-    Outcome (run_decision (length old) (output job picture)) run_answer FrontWrites old new (tt {0}) (tt {0}) answer
+    Outcome (run_decision (length old) (output job picture)) (map_found length) FrontWrites old new (tt {0}) (tt {0})
+    (told answer)

@@ -2,7 +2,7 @@
 -- or a refusal.
 use Rattle.std.specs.Prelude.{ℕ, ◌*◌, List, Float, length}
 use Rattle.numbers.specs.Scalar.{clamp_byte}
-use Rattle.image.specs.Call.{Gray8, gray8, Decision, accepts, refuses, decided}
+use Rattle.image.specs.Call.{Gray8, gray8, Decision, decided, map_found}
 use Rattle.image.specs.Picture.{pixel}
 use Rattle.image.specs.Refusal.{max_side}
 use Rattle.raster.specs.declared.direction.RasterDirection4.{RasterDirection4}
@@ -28,11 +28,6 @@ pub record Made : Type 0 where
 
 abbrev pub made : Record → (ℕ → ℕ → ℕ) → Made
 made result pixels = record { result = result; pixels = pixels }
-
--- by what a call found
-abbrev pub makes : {R : Type 0} → (R → Made) → Decision R → Decision Made
-makes f (accepts found) = accepts (f found)
-makes f (refuses number) = refuses number
 
 -- a line filter adds its direction; the whole job, all that it measured
 abbrev pub with_direction : Record → RasterDirection4 → Record
@@ -91,7 +86,7 @@ line_made r f picture d =
 
 abbrev pub line_stage : Record → LineFilter → List ℕ → Decision Made
 line_stage r f picture =
-    makes (line_made r f picture)
+    map_found (line_made r f picture)
     (decided_along
     (filter_refusal (length picture) r.width r.height r.width (r.width * r.height)
     r.width r.height r.width
@@ -110,7 +105,7 @@ job_made r config picture result =
 abbrev pub whole_job : Record → Float → List ℕ → Decision Made
 whole_job r relaxation picture =
     let config = record_job r relaxation in
-    makes (job_made r config picture) (planned picture r.width r.height (r.width * r.height) config line_scratch)
+    map_found (job_made r config picture) (planned picture r.width r.height (r.width * r.height) config line_scratch)
 
 -- the binomial's result is its job
 abbrev pub binomial_made : Record → List ℕ → Unit {0} → Made
@@ -118,7 +113,7 @@ binomial_made r picture _ = made r (binomial.unsharp (pixel picture r.width) r.w
 
 abbrev pub binomial_stage : Record → List ℕ → Decision Made
 binomial_stage r picture =
-    makes (binomial_made r picture)
+    map_found (binomial_made r picture)
     (decided
     (binomial_refusal (length picture) r.width r.height r.width (r.width * r.height) r.width r.height
     r.width most_pixels)

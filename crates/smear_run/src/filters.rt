@@ -1,48 +1,17 @@
 // The filters of a record on a tight picture of at most `MOST_PIXELS`. Each owns its scratch.
 ghost use Rattle.std.specs.Prelude.{◌≡◌, ◌*◌, length};
 ghost use Rattle.deblur.specs.Settings.{restoration_of, unsharp_of};
+ghost use Rattle.image.specs.View.{view_of, view_mut_of};
 ghost use Rattle.record.specs.Record.{used_in};
 ghost use Rattle.smear_run.specs.Stage.{record_restoration, record_unsharp, line_stage, binomial_stage, stage};
-ghost use Rattle.smear_run.specs.Parts.{line_answer, binomial_answer, Filtered};
+ghost use Rattle.smear_run.specs.Parts.{Filtered};
 
 use crate::whole_job::whole_job;
 use crate::{LINE_SCRATCH, MOST_PIXELS};
-use deblur::{DirectionalUnsharpConfig, RestorationAnswer, VanCittertConfig};
+use deblur::{DirectionalUnsharpConfig, VanCittertConfig};
+use image::{Gray8View, Gray8ViewMut, Refusal};
 use raster::direction::RasterDirection4;
 use record::{Record, RecordFilter};
-use sharpen::SharpenAnswer;
-
-#[derive(Clone, Copy)]
-pub(crate) enum FilterAnswer {
-    // The result's record.
-    Done(Record),
-    Refused(u8),
-}
-
-fn restoration_config(record: Record, relaxation: f64) -> VanCittertConfig
-    ensures { result ≡ record_restoration «record» relaxation }
-{
-    let border = record.border;
-    VanCittertConfig {
-        theta_radians: record.angle,
-        blur_length: record.blur_length as usize,
-        iterations: record.iterations as usize,
-        relaxation,
-        border,
-    }
-}
-
-fn unsharp_config(record: Record, gain: f64) -> DirectionalUnsharpConfig
-    ensures { result ≡ record_unsharp «record» gain }
-{
-    let border = record.border;
-    DirectionalUnsharpConfig {
-        theta_radians: record.angle,
-        blur_length: record.blur_length as usize,
-        gain,
-        border,
-    }
-}
 
 // The record with what was used.
 pub(crate) fn used(
@@ -53,125 +22,105 @@ pub(crate) fn used(
 ) -> Record
     ensures { result ≡ used_in «record» direction blur_length estimate }
 {
-    let border = record.border;
-    let filter = record.filter;
     Record {
-        width: record.width,
-        height: record.height,
         direction,
-        border,
-        filter: filter.used(),
+        filter: record.filter.used(),
         blur_length,
-        iterations: record.iterations,
-        angle: record.angle,
         estimate,
+        ..record
     }
 }
 
-// A line filter's result has the direction that the lines took.
-fn line_answer(record: Record, answer: RestorationAnswer) -> FilterAnswer
-    ensures { result ≡ line_answer «record» answer }
+// A tight picture of the record's sides.
+pub(crate) fn source<'a>(record: Record, picture: &'a [u8]) -> Gray8View<'a>
+    ensures { result ≡ view_of picture.entry «record».width «record».height «record».width }
 {
-    match answer {
-        RestorationAnswer::Done(metadata) => {
-            let direction = metadata.raster_direction;
-            FilterAnswer::Done(used(record, direction, record.blur_length, record.estimate))
-        }
-        RestorationAnswer::Refused(number) => FilterAnswer::Refused(number),
-    }
+    let width = record.width as usize;
+    Gray8View::new(picture, width, record.height as usize, width)
 }
 
-// On the stack: 3,072 i32, 12,288 bytes.
-fn restoration(record: Record, relaxation: f64, picture: &[u8], dst: &mut [u8]) -> FilterAnswer
+// The same, to be written.
+pub(crate) fn destination<'a>(record: Record, dst: &'a mut [u8]) -> Gray8ViewMut<'a>
+    ensures { result ≡ view_mut_of dst.entry «record».width «record».height «record».width }
+{
+    let width = record.width as usize;
+    Gray8ViewMut::new(dst, width, record.height as usize, width)
+}
+
+// A line filter's result has the direction that the lines took. On the stack: 3,072 i32, 12,288 bytes.
+fn restoration(
+    record: Record,
+    relaxation: f64,
+    picture: &[u8],
+    dst: &mut [u8],
+) -> Result<Record, Refusal>
     requires { length dst.old ≡ «record».width * «record».height }
     ensures { Filtered (line_stage «record» (restoration_of (record_restoration «record» relaxation))
         picture.now) «record» dst.old dst.new result }
 {
     let mut scratch = [0i32; LINE_SCRATCH];
-    let width = record.width as usize;
-    let height = record.height as usize;
-    let config = restoration_config(record, relaxation);
-    let answer = deblur::van_cittert_line_into(
-        picture,
-        width,
-        height,
-        width,
-        dst,
-        width,
-        height,
-        width,
-        config,
-        &mut scratch,
-    );
-    line_answer(record, answer)
+    let config = VanCittertConfig {
+        theta_radians: record.angle,
+        blur_length: record.blur_length as usize,
+        iterations: record.iterations as usize,
+        relaxation,
+        border: record.border,
+    };
+    let from = source(record, picture);
+    let to = destination(record, dst);
+    let done = deblur::van_cittert_line_into(from, to, config, &mut scratch)?;
+    Ok(used(
+        record,
+        done.raster_direction,
+        record.blur_length,
+        record.estimate,
+    ))
 }
 
-// On the stack: 3,072 i32, 12,288 bytes.
-fn unsharp(record: Record, gain: f64, picture: &[u8], dst: &mut [u8]) -> FilterAnswer
+// The same with a gain, of other settings: a trait over both would be as long. On the stack: 3,072 i32, 12,288 bytes.
+fn unsharp(record: Record, gain: f64, picture: &[u8], dst: &mut [u8]) -> Result<Record, Refusal>
     requires { length dst.old ≡ «record».width * «record».height }
     ensures { Filtered (line_stage «record» (unsharp_of (record_unsharp «record» gain)) picture.now)
         «record» dst.old dst.new result }
 {
     let mut scratch = [0i32; LINE_SCRATCH];
-    let width = record.width as usize;
-    let height = record.height as usize;
-    let config = unsharp_config(record, gain);
-    let answer = deblur::directional_unsharp_line_into(
-        picture,
-        width,
-        height,
-        width,
-        dst,
-        width,
-        height,
-        width,
-        config,
-        &mut scratch,
-    );
-    line_answer(record, answer)
+    let config = DirectionalUnsharpConfig {
+        theta_radians: record.angle,
+        blur_length: record.blur_length as usize,
+        gain,
+        border: record.border,
+    };
+    let from = source(record, picture);
+    let to = destination(record, dst);
+    let done = deblur::directional_unsharp_line_into(from, to, config, &mut scratch)?;
+    Ok(used(
+        record,
+        done.raster_direction,
+        record.blur_length,
+        record.estimate,
+    ))
 }
 
-// The binomial's result is its job.
-fn binomial_answer(record: Record, answer: SharpenAnswer) -> FilterAnswer
-    ensures { result ≡ binomial_answer «record» answer }
-{
-    match answer {
-        SharpenAnswer::Done => FilterAnswer::Done(record),
-        SharpenAnswer::Refused(number) => FilterAnswer::Refused(number),
-    }
-}
-
-// On the stack: 4,096 u16, 8,192 bytes.
-fn binomial(record: Record, picture: &[u8], dst: &mut [u8]) -> FilterAnswer
+// The binomial's result is its job. On the stack: 4,096 u16, 8,192 bytes.
+fn binomial(record: Record, picture: &[u8], dst: &mut [u8]) -> Result<Record, Refusal>
     requires { length dst.old ≡ «record».width * «record».height }
     ensures { Filtered (binomial_stage «record» picture.now) «record»
         dst.old dst.new result }
 {
     let mut scratch = [0u16; MOST_PIXELS];
-    let width = record.width as usize;
-    let height = record.height as usize;
-    let answer = sharpen::fixed_binomial_unsharp_into(
-        picture,
-        width,
-        height,
-        width,
-        dst,
-        width,
-        height,
-        width,
-        &mut scratch,
-    );
-    binomial_answer(record, answer)
+    let from = source(record, picture);
+    let to = destination(record, dst);
+    sharpen::fixed_binomial_unsharp_into(from, to, &mut scratch)?;
+    Ok(record)
 }
 
 // The record's filter.
-pub(crate) fn filter(record: Record, picture: &[u8], dst: &mut [u8]) -> FilterAnswer
+pub(crate) fn filter(record: Record, picture: &[u8], dst: &mut [u8]) -> Result<Record, Refusal>
     requires { length dst.old ≡ «record».width * «record».height }
     ensures { Filtered (stage «record» picture.now) «record»
         dst.old dst.new result }
 {
-    let filter = record.filter;
-    match filter {
+    match record.filter {
         RecordFilter::WholeJob(relaxation) => whole_job(record, relaxation, picture, dst),
         RecordFilter::Restoration(relaxation) => restoration(record, relaxation, picture, dst),
         RecordFilter::Unsharp(gain) => unsharp(record, gain, picture, dst),

@@ -5,8 +5,7 @@ ghost use Rattle.smear_run.specs.Output.{Ran};
 
 use crate::output::run_record;
 use crate::text::put_refusal;
-use image::view::Gray8View;
-use record::ReadAnswer;
+use image::{Gray8View, Refusal};
 
 mod filters;
 mod output;
@@ -22,22 +21,15 @@ pub const MOST_PRINTED: usize = MOST_PIXELS + 32;
 // How many i32 a line filter asks for at most.
 const LINE_SCRATCH: usize = 3 * Gray8View::MAX_SIDE;
 
-#[derive(Clone, Copy)]
-pub enum RunAnswer {
-    // How many bytes are printed.
-    Written(usize),
-    // The number of the refusal.
-    Refused(u8),
-}
-
-// What the program prints for a job's record and a tight picture, in the front of `out`: pixels and the result's
-// record, or a text. 10 where `out` is shorter than that, which is at most `MOST_PRINTED`. On the stack: what the
-// filter owns (`filters`, `whole_job`), and 4,096 bytes where `out` has no room for pixels and record (`output`).
-pub fn run(job: &[u8], picture: &[u8], out: &mut [u8]) -> RunAnswer
+// What the program prints for a job's record and a tight picture, in the front of `out`, and how many bytes that is:
+// pixels and the result's record, or a text. 10 where `out` is shorter than that, which is at most `MOST_PRINTED`. On
+// the stack: what the filter owns (`filters`, `whole_job`), and 4,096 bytes where `out` has no room for pixels and
+// record (`output`).
+pub fn run(job: &[u8], picture: &[u8], out: &mut [u8]) -> Result<usize, Refusal>
     ensures { Ran job.now picture.now out.old out.new result }
 {
     match record::read(job) {
-        ReadAnswer::Record(record) => run_record(record, picture, out),
-        ReadAnswer::Refused(number) => put_refusal(number, out),
+        Ok(record) => run_record(record, picture, out),
+        Err(refusal) => put_refusal(refusal, out),
     }
 }

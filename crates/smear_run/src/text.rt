@@ -1,29 +1,31 @@
 // The texts that the program prints, at the front of a slice; 10 where it has no room for them.
+ghost use Rattle.image.specs.Call.{number_of_refusal};
 ghost use Rattle.smear_run.specs.Output.{refused_text, too_large};
 ghost use Rattle.smear_run.specs.Parts.{Put};
 
-use crate::RunAnswer;
+use image::Refusal;
 
-fn put_text(text: &[u8], out: &mut [u8]) -> RunAnswer
+fn put_text(text: &[u8], out: &mut [u8]) -> Result<usize, Refusal>
     ensures { Put text.now out.old out.new result }
 {
     if out.len() < text.len() {
-        return RunAnswer::Refused(10);
+        return Err(Refusal::LentTooSmall);
     }
     out[..text.len()].copy_from_slice(text);
-    RunAnswer::Written(text.len())
+    Ok(text.len())
 }
 
-pub(crate) fn put_too_large(out: &mut [u8]) -> RunAnswer
+pub(crate) fn put_too_large(out: &mut [u8]) -> Result<usize, Refusal>
     ensures { Put too_large out.old out.new result }
 {
     put_text(b"too large\n", out)
 }
 
-// The number has one digit or two.
-pub(crate) fn put_refusal(number: u8, out: &mut [u8]) -> RunAnswer
-    ensures { Put (refused_text number) out.old out.new result }
+// By hand: no contract says that printing into a buffer with room succeeds. The number has one digit or two.
+pub(crate) fn put_refusal(refusal: Refusal, out: &mut [u8]) -> Result<usize, Refusal>
+    ensures { Put (refused_text (number_of_refusal refusal)) out.old out.new result }
 {
+    let number = refusal.number();
     let low = b'0' + number % 10;
     if number < 10 {
         let mut text = *b"refused 0\n";

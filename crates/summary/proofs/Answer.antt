@@ -11,49 +11,48 @@ use lib.ListN.{length}
 use Rattle.numbers.proofs.Test.{by_test, ap_cond, or_false_left, or_false_right}
 use Rattle.record.specs.Record.{read_record}
 use Rattle.record.specs.declared.Record.{Record}
-use Rattle.record.specs.declared.ReadAnswer.{ReadAnswer}
-use Rattle.record.specs.declared.ReadAnswer.TheVariants as read
 use Rattle.record.proofs.Results.{read_length}
 use Rattle.summary.specs.Sheet.{tally_of, sheet_of}
 use Rattle.summary.specs.File.{parts, lacks_length, is_fault, max_records, is_fault_at, first_fault}
 use Rattle.summary.specs.File.{records_in, summarized}
 use Rattle.summary.specs.Tally.{added, added_part, unless_fault, added_parts, Held}
-use Rattle.summary.specs.declared.SummaryAnswer.{SummaryAnswer}
-use Rattle.summary.specs.declared.SummaryAnswer.TheVariants.{Summary, Refused}
 use Rattle.summary.specs.declared.kernel.Tally.{Tally}
-use Rattle.summary.specs.declared.kernel.TallyAnswer.{TallyAnswer}
-use Rattle.summary.specs.declared.kernel.TallyAnswer.TheVariants as answer
 use Rattle.summary.proofs.Tallies.{added_tally, tally_reordered, added_held}
+use Rattle.std.specs.Prelude.{Result, Ok, Err}
+use Rattle.image.specs.Call.{Decision, accepts, refuses}
+use Rattle.summary.specs.File.{faulty_at}
+use Rattle.summary.specs.declared.FaultyRecord.{FaultyRecord}
+use Rattle.summary.specs.declared.RecordSummary.{RecordSummary}
 
 -- ---- one part
 
 -- a part that is no fault is a record
-part_read : (i : ℕ) (p : List ℕ) → is_fault_at i p ≡ false → (r : Record) × (read_record p ≡ read.Record r)
+part_read : (i : ℕ) (p : List ℕ) → is_fault_at i p ≡ false → (r : Record) × (read_record p ≡ accepts r)
 part_read i p fine = go (read_record p) refl (or_false_right (leb max_records i) (is_fault (read_record p)) fine)
   where
-    go : (z : ReadAnswer) → read_record p ≡ z → is_fault z ≡ false → (r : Record) × (read_record p ≡ read.Record r)
-    go (read.Record r) e f = (r, e)
-    go (read.Refused number) e f = absurd (let z : ◌≡◌ {A = ℕ} 0 1 = cc in omega arith)
+    go : (z : Decision Record) → read_record p ≡ z → is_fault z ≡ false → (r : Record) × (read_record p ≡ accepts r)
+    go (accepts r) e f = (r, e)
+    go (refuses number) e f = cc
 
 module _ (t : Tally) (p : List ℕ) where
-  part-fault : is_fault_at t.records p ≡ true → added_part t p ≡ answer.Refused 13 t.records
+  part-fault : is_fault_at t.records p ≡ true → added_part t p ≡ Err (faulty_at t.records)
   unfolding added_part
   part-fault h = rw h refl
 
-  part-added : (r : Record) → is_fault_at t.records p ≡ false → read_record p ≡ read.Record r
-      → added_part t p ≡ answer.Tally (added t r)
+  part-added : (r : Record) → is_fault_at t.records p ≡ false → read_record p ≡ accepts r
+      → added_part t p ≡ Ok (added t r)
   unfolding added_part
   part-added r h e = rw (h, e) refl
 
-  pub part_beyond : max_records ≤ t.records → added_part t p ≡ answer.Refused 13 t.records
+  pub part_beyond : max_records ≤ t.records → added_part t p ≡ Err (faulty_at t.records)
   part_beyond h = part-fault (rw (le-leb max_records t.records h) refl)
 
-  pub part_faulty : (z : ReadAnswer) → read_record p ≡ z → is_fault z ≡ true
-      → added_part t p ≡ answer.Refused 13 t.records
+  pub part_faulty : (z : Decision Record) → read_record p ≡ z → is_fault z ≡ true
+      → added_part t p ≡ Err (faulty_at t.records)
   part_faulty z e h = part-fault (rw (e, h) (or-true (leb max_records t.records)))
 
-  pub part_counted : (r : Record) → t.records < max_records → read_record p ≡ read.Record r → lacks_length r ≡ false
-      → added_part t p ≡ answer.Tally (added t r)
+  pub part_counted : (r : Record) → t.records < max_records → read_record p ≡ accepts r → lacks_length r ≡ false
+      → added_part t p ≡ Ok (added t r)
   part_counted r less e h = part-added r (rw (lt-leb max_records t.records less, e, h) refl) e
 
 -- ---- every part counted is a record more, and numbers stay small
@@ -66,16 +65,16 @@ one_more t r = refl
 record Counted (t : Tally) (p : List ℕ) (u : Tally) : Type 0 where
   within : t.records < max_records
   counts : Record
-  reads : read_record p ≡ read.Record counts
+  reads : read_record p ≡ accepts counts
   adds : u ≡ added t counts
 
-part_counts : (t : Tally) (p : List ℕ) {u : Tally} → added_part t p ≡ answer.Tally u → Counted t p u
+part_counts : (t : Tally) (p : List ℕ) {u : Tally} → added_part t p ≡ Ok u → Counted t p u
 part_counts t p {u} e =
     by_test (is_fault_at t.records p)
-    (λ h. absurd (let e' = sym (part-fault t p h) ∙ e in let z : ◌≡◌ {A = ℕ} 0 1 = cc in omega arith))
+    (λ h. let e' = sym (part-fault t p h) ∙ e in cc)
     (λ h.
     let q = part_read t.records p h in
-    let same : answer.Tally (added t q.0) ≡ answer.Tally u = sym (part-added t p q.0 h q.1) ∙ e in
+    let same : Ok (added t q.0) ≡ Ok u = sym (part-added t p q.0 h q.1) ∙ e in
     let is : u ≡ added t q.0 = cc in
     record {
       within = leb-false max_records t.records (or_false_left (leb max_records t.records) _ h);
@@ -84,7 +83,7 @@ part_counts t p {u} e =
       adds = is;
     })
 
-module _ (t : Tally) (p : List ℕ) {u : Tally} (e : added_part t p ≡ answer.Tally u) where
+module _ (t : Tally) (p : List ℕ) {u : Tally} (e : added_part t p ≡ Ok u) where
   pub part_held : Held t → Held u
   part_held h =
       let c = part_counts t p e in
@@ -94,12 +93,12 @@ module _ (t : Tally) (p : List ℕ) {u : Tally} (e : added_part t p ≡ answer.T
   part-records = let c = part_counts t p e in rw c.adds (one_more t c.counts)
 
 module _ (t : Tally) (p : List ℕ) (ps : List (List ℕ)) {u : Tally} where
-  parts-on : (z : TallyAnswer) → added_part t p ≡ z → unless_fault z (λ v. added_parts v ps) ≡ answer.Tally u
-      → (v : Tally) × (added_part t p ≡ answer.Tally v) × (added_parts v ps ≡ answer.Tally u)
-  parts-on (answer.Tally v) e on = (v, e, on)
-  parts-on (answer.Refused number i) e on = absurd (let z : ◌≡◌ {A = ℕ} 0 1 = cc in omega arith)
+  parts-on : (z : Result Tally FaultyRecord) → added_part t p ≡ z → unless_fault z (λ v. added_parts v ps) ≡ Ok u
+      → (v : Tally) × (added_part t p ≡ Ok v) × (added_parts v ps ≡ Ok u)
+  parts-on (Ok v) e on = (v, e, on)
+  parts-on (Err f) e on = cc
 
-pub parts_counted : (ps : List (List ℕ)) (t : Tally) {u : Tally} → added_parts t ps ≡ answer.Tally u → Held t
+pub parts_counted : (ps : List (List ℕ)) (t : Tally) {u : Tally} → added_parts t ps ≡ Ok u → Held t
     → Held u × (u.records ≡ t.records + length ps)
 unfolding added_parts
 parts_counted [] t {u} e h =
@@ -113,10 +112,10 @@ parts_counted (p ∷ ps) t e h =
 -- ---- parts, from a tally of records on
 
 -- the fold adds each record before those that it has
-counted : List Record → List (List ℕ) → TallyAnswer
+counted : List Record → List (List ℕ) → Result Tally FaultyRecord
 counted rs ps =
     let i = first_fault (length rs) ps in
-    cond (eqb i (length rs + length ps)) (answer.Tally (tally_of (reverse_aux (records_in ps) rs))) (answer.Refused 13 i)
+    cond (eqb i (length rs + length ps)) (Ok (tally_of (reverse_aux (records_in ps) rs))) (Err (faulty_at i))
 
 module _ (p : List ℕ) (ps : List (List ℕ)) (rs : List Record) where
   counted-fault : is_fault_at (length rs) p ≡ true → added_parts (tally_of rs) (p ∷ ps) ≡ counted rs (p ∷ ps)
@@ -144,9 +143,9 @@ added_parts_lem (p ∷ ps) rs =
 
 -- ---- a whole file
 
-abbrev pub finished : TallyAnswer → SummaryAnswer
-finished (answer.Tally t) = Summary (sheet_of t)
-finished (answer.Refused number i) = Refused number i
+abbrev pub finished : Result Tally FaultyRecord → Result RecordSummary FaultyRecord
+finished (Ok t) = Ok (sheet_of t)
+finished (Err f) = Err f
 
 fold_summarized : (xs : List ℕ) → finished (added_parts (tally_of []) (parts xs)) ≡ summarized xs
 unfolding counted summarized
@@ -157,6 +156,6 @@ fold_summarized xs =
     ∙ rw (none, tally_reordered (Permᴰ.reverse (records_in ps)))
     (ap_cond finished (eqb (first_fault 0 ps) (length ps)) _ _)
 
-pub finishes : (xs : List ℕ) {start : Tally} {z : TallyAnswer} → start ≡ tally_of [] → z ≡ added_parts start (parts xs)
+pub finishes : (xs : List ℕ) {start : Tally} {z : Result Tally FaultyRecord} → start ≡ tally_of [] → z ≡ added_parts start (parts xs)
     → finished z ≡ summarized xs
 finishes xs s e = rw (e, s) (fold_summarized xs)

@@ -7,16 +7,15 @@ use Rattle.image.specs.Conditions.{FirstMatch, Exactly}
 use Rattle.image.proofs.Conditions.{exactly}
 use Rattle.summary.specs.Conditions.{summary_number, summary_conditions}
 use Rattle.summary.specs.File.{summarized}
-use Rattle.summary.specs.declared.SummaryAnswer.{SummaryAnswer}
-use Rattle.summary.specs.declared.SummaryAnswer.TheVariants.{Summary, Refused}
 use Rattle.summary.proofs.Faults.{given_none, refused_first}
+use Rattle.std.specs.Prelude.{Result, Ok, Err}
+use Rattle.summary.specs.declared.FaultyRecord.{FaultyRecord}
+use Rattle.summary.specs.declared.RecordSummary.{RecordSummary}
 
 module _ (xs : List ℕ) where
-  answer-matches : (z : SummaryAnswer) → summarized xs ≡ z → FirstMatch (summary_conditions xs) (summary_number z)
-  answer-matches (Summary s) e = record { matches = inr (λ f. given_none xs s e f.0 f.1, refl) }
-  answer-matches (Refused number i) e =
-      let first = refused_first xs number i e in
-      record { matches = inl ((i, first.1.fault), first.0) }
+  answer-matches : (z : Result RecordSummary FaultyRecord) → summarized xs ≡ z → FirstMatch (summary_conditions xs) (summary_number z)
+  answer-matches (Ok s) e = record { matches = inr (λ f. given_none xs s e f.0 f.1, refl) }
+  answer-matches (Err f) e = record { matches = inl ((f.index, (refused_first xs f e).1.fault), refl) }
 
   pub summary_matches : FirstMatch (summary_conditions xs) (summary_number (summarized xs))
   summary_matches = answer-matches (summarized xs) refl

@@ -1,8 +1,8 @@
--- A file is refused where there is a fault (`fault_refused`), with the index of the first (`refused_first`); where a
--- sheet is given there is none (`given_none`).
+-- A file is refused where there is a fault (`fault_refused`), with 13 and the index of the first (`refused_first`);
+-- where a sheet is given there is none (`given_none`).
 use mathlib.Core.Bool.{true, false}
 use mathlib.Core.List.{List, [], ◌∷◌}
-use mathlib.Core.Path.{◌≡◌, refl, sym, subst}
+use mathlib.Core.Path.{◌≡◌, refl, sym, ap}
 use Prim.Native.Nat.{ℕ, zero, suc, ◌+◌, ◌≤◌, ◌<◌}
 use native.Mathlib.Nat.{le_refl, zero-add}
 use native.Mathlib.Omega.{arith}
@@ -14,8 +14,11 @@ use Rattle.record.specs.Record.{read_record}
 use Rattle.summary.specs.Sheet.{tally_of, sheet_of}
 use Rattle.summary.specs.File.{parts, is_fault, max_records, is_fault_at, first_fault, records_in}
 use Rattle.summary.specs.File.{summarized, part_at, FaultAt, FirstFault, All}
+use Rattle.summary.specs.Conditions.{summary_number}
+use Rattle.summary.specs.declared.FaultyRecord.{FaultyRecord}
 use Rattle.summary.specs.declared.RecordSummary.{RecordSummary}
-use Rattle.summary.specs.declared.SummaryAnswer.TheVariants.{Summary, Refused}
+use Rattle.std.specs.Prelude.{Ok, Err}
+use Rattle.summary.specs.File.{faulty_at}
 
 -- ---- the search
 
@@ -109,36 +112,35 @@ module _ (xs : List ℕ) where
             rw (zero-add j) at fine;
       }
 
-  pub given_fine : (s : RecordSummary) → summarized xs ≡ Summary s → first_fault 0 (parts xs) ≡ length (parts xs)
+  pub given_fine : (s : RecordSummary) → summarized xs ≡ Ok s → first_fault 0 (parts xs) ≡ length (parts xs)
   unfolding summarized
   given_fine s e =
       by_test (eqb (first_fault 0 (parts xs)) (length (parts xs))) (λ h. eqb-true _ _ h)
-      (λ h. absurd (let l = rw h at e in let z : ◌≡◌ {A = ℕ} 0 1 = cc in omega arith))
+      (λ h. let l = rw h at e in cc)
 
-  pub given_sheet : (s : RecordSummary) → summarized xs ≡ Summary s → s ≡ sheet_of (tally_of (records_in (parts xs)))
+  pub given_sheet : (s : RecordSummary) → summarized xs ≡ Ok s → s ≡ sheet_of (tally_of (records_in (parts xs)))
   unfolding summarized
   given_sheet s e =
       let l = rw (eq-eqb (first_fault 0 (parts xs)) (length (parts xs)) (given_fine s e)) at e in
       cc
 
   -- where a sheet is given, no part is a fault
-  pub given_none : (s : RecordSummary) → summarized xs ≡ Summary s → (j : ℕ) → FaultAt xs j → ⊥
+  pub given_none : (s : RecordSummary) → summarized xs ≡ Ok s → (j : ℕ) → FaultAt xs j → ⊥
   given_none s e j f = false_not_true (none-fine (given_fine s e) j f.within) f.faulty
 
   -- a refusal is 13, with the index of the first fault
-  pub refused_first : (number i : ℕ) → summarized xs ≡ Refused number i → (number ≡ 13) × FirstFault xs i
+  pub refused_first : (f : FaultyRecord) → summarized xs ≡ Err f
+      → (summary_number (summarized xs) ≡ 13) × FirstFault xs f.index
   unfolding summarized
-  refused_first number i e =
-      by_test (eqb (first_fault 0 (parts xs)) (length (parts xs)))
-      (λ h. absurd (let l = rw h at e in let z : ◌≡◌ {A = ℕ} 0 1 = cc in omega arith))
+  refused_first f e =
+      by_test (eqb (first_fault 0 (parts xs)) (length (parts xs))) (λ h. let l = rw h at e in cc)
       (λ h.
       let l = rw h at e in
-      let n : number ≡ 13 = cc in
-      let same : first_fault 0 (parts xs) ≡ i = cc in
-      (n, subst (FirstFault xs) same (found_first (eqb-false _ _ h))))
+      let same : faulty_at (first_fault 0 (parts xs)) ≡ f = cc in
+      (ap summary_number e, rw (← same) (found_first (eqb-false _ _ h))))
 
   -- .. and where there is a fault the file is refused
-  pub fault_refused : (i : ℕ) → FaultAt xs i → summarized xs ≡ Refused 13 (first_fault 0 (parts xs))
+  pub fault_refused : (i : ℕ) → FaultAt xs i → summarized xs ≡ Err (faulty_at (first_fault 0 (parts xs)))
   unfolding summarized
   fault_refused i f =
       rw

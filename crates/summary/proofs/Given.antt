@@ -12,17 +12,17 @@ use lib.ListN.{length, take, drop, get_or, length-take, length-drop}
 use Rattle.numbers.proofs.Test.{by_test, false_not_true}
 use Rattle.raster.specs.declared.direction.RasterDirection4.{RasterDirection4}
 use Rattle.record.specs.Record.{read_record}
-use Rattle.record.specs.declared.ReadAnswer.{ReadAnswer}
-use Rattle.record.specs.declared.ReadAnswer.TheVariants as read
+use Rattle.record.specs.declared.Record.{Record}
 use Rattle.record.proofs.Answer.{read_short}
 use Rattle.summary.specs.Sheet.{lengths_along, with_mean, lengths_of, along}
 use Rattle.summary.specs.File.{parts_of, parts, is_fault, with_record, records_in, summarized, All}
 use Rattle.summary.specs.declared.RecordSummary.{RecordSummary}
-use Rattle.summary.specs.declared.SummaryAnswer.TheVariants.{Summary}
 use Rattle.summary.proofs.Faults.{Fine, NoFault, first_fine, given_fine, given_sheet}
 use Rattle.summary.proofs.Parts.{parts_length}
 use Rattle.summary.proofs.Sheets.{mean_total, remainder_below, largest_most, largest_reached, counts_total}
 use Rattle.summary.proofs.Sheets.{sheet_along}
+use Rattle.std.specs.Prelude.{Ok}
+use Rattle.image.specs.Call.{Decision, accepts, refuses}
 
 -- ---- parts without fault are whole records
 
@@ -35,10 +35,10 @@ all_read : (ps : List (List ℕ)) → All Fine ps → length (records_in ps) ≡
 all_read [] f = refl
 all_read (p ∷ ps) f = go (read_record p) f.0 (all_read ps f.1)
   where
-    go : (z : ReadAnswer) → is_fault z ≡ false → length (records_in ps) ≡ length ps
+    go : (z : Decision Record) → is_fault z ≡ false → length (records_in ps) ≡ length ps
         → length (with_record z (records_in ps)) ≡ suc (length ps)
-    go (read.Record r) h e = ap suc e
-    go (read.Refused number) h e = absurd (false_not_true h refl)
+    go (accepts r) h e = ap suc e
+    go (refuses number) h e = absurd (false_not_true h refl)
 
 whole_bytes : (n : ℕ) (xs : List ℕ) → (length xs + 31) / 32 ≡ n → All Fine (parts_of n xs) → length xs ≡ n * 32
 unfolding parts_of
@@ -51,7 +51,7 @@ whole_bytes (suc n) xs e f =
 
 -- ---- a given sheet
 
-module _ (xs : List ℕ) (s : RecordSummary) (given : summarized xs ≡ Summary s) where
+module _ (xs : List ℕ) (s : RecordSummary) (given : summarized xs ≡ Ok s) where
   -- the blur lengths that the sheet is over
   abbrev lengths : RasterDirection4 → List ℕ
   lengths d = lengths_along d (records_in (parts xs))

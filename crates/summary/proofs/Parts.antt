@@ -33,6 +33,16 @@ pub parts_next : (xs : List ℕ) → 0 < length xs → parts xs ≡ take 32 xs �
 unfolding parts_of
 parts_next xs some = rw (count_next (length xs) some, length-drop 32 xs) refl
 
+-- .. and as the pieces of a slice come, of 32 bytes or what is left
+pub parts_step : (xs x ys : List ℕ) → xs ≡ x ++ ys → length x ≡ min 32 (length xs) → 0 < length xs
+    → parts xs ≡ x ∷ parts ys
+parts_step xs x ys e l some =
+    let first : take 32 xs ≡ x =
+    sym (take_min 32 xs) ∙ ap (λ (n : ℕ). take n xs) (sym l) ∙ ap (take (length x)) e ∙ take_at x ys (length x) refl in
+    let rest : drop 32 xs ≡ ys =
+    sym (drop_min 32 xs) ∙ ap (λ (n : ℕ). drop n xs) (sym l) ∙ ap (drop (length x)) e ∙ drop_at x ys (length x) refl in
+    parts_next xs some ∙ rw (first, rest) refl
+
 parts_of_length : (n : ℕ) (xs : List ℕ) → length (parts_of n xs) ≡ n
 unfolding parts_of
 parts_of_length zero xs = refl

@@ -1,14 +1,14 @@
 -- Document 02, K1: the refusal of `summarize` with its condition.
-use Rattle.std.specs.Prelude.{ℕ, List, [], ◌∷◌}
+use Rattle.std.specs.Prelude.{ℕ, List, [], ◌∷◌, Result, Ok, Err}
 use Rattle.image.specs.Conditions.{Refusal, given}
-use Rattle.summary.specs.File.{FaultAt}
-use Rattle.summary.specs.declared.SummaryAnswer.{SummaryAnswer}
-use Rattle.summary.specs.declared.SummaryAnswer.TheVariants.{Summary, Refused}
+use Rattle.summary.specs.File.{fault_number, FaultAt}
+use Rattle.summary.specs.declared.FaultyRecord.{FaultyRecord}
+use Rattle.summary.specs.declared.RecordSummary.{RecordSummary}
 
 -- 0, or the refusal's number
-abbrev pub summary_number : SummaryAnswer → ℕ
-summary_number (Summary s) = 0
-summary_number (Refused number i) = number
+abbrev pub summary_number : Result RecordSummary FaultyRecord → ℕ
+summary_number (Ok s) = 0
+summary_number (Err f) = fault_number
 
 abbrev pub summary_conditions : List ℕ → List Refusal
 summary_conditions xs = given 13 ((i : ℕ) × FaultAt xs i) ∷ []

@@ -1,12 +1,11 @@
 -- Document 02, K1: the parts of a file, the first fault among them, and the answer.
-use Rattle.std.specs.Prelude.{Bool, true, false, ◌&&◌, ◌||◌, cond, List, [], ◌∷◌, ℕ, zero, suc, ◌+◌, ◌/◌, ◌<◌, ◌≡◌, leb, eqb, length, take, drop, get_or}
+use Rattle.std.specs.Prelude.{Bool, true, false, ◌&&◌, ◌||◌, cond, List, [], ◌∷◌, ℕ, zero, suc, ◌+◌, ◌/◌, ◌<◌, ◌≡◌, leb, eqb, length, take, drop, get_or, Result, Ok, Err}
+use Rattle.image.specs.Call.{Decision, accepts, refuses}
 use Rattle.record.specs.Record.{read_record}
 use Rattle.record.specs.declared.Record.{Record}
-use Rattle.record.specs.declared.ReadAnswer.{ReadAnswer}
-use Rattle.record.specs.declared.ReadAnswer.TheVariants as read
 use Rattle.summary.specs.Sheet.{is_line, tally_of, sheet_of}
-use Rattle.summary.specs.declared.SummaryAnswer.{SummaryAnswer}
-use Rattle.summary.specs.declared.SummaryAnswer.TheVariants.{Summary, Refused}
+use Rattle.summary.specs.declared.FaultyRecord.{FaultyRecord}
+use Rattle.summary.specs.declared.RecordSummary.{RecordSummary}
 
 -- ---- records back to back: parts of 32 bytes, the last of 1 to 32
 
@@ -23,9 +22,9 @@ parts xs = parts_of ((length xs + 31) / 32) xs
 abbrev pub lacks_length : Record → Bool
 lacks_length r = is_line r && eqb r.blur_length 0
 
-abbrev pub is_fault : ReadAnswer → Bool
-is_fault (read.Record r) = lacks_length r
-is_fault (read.Refused number) = true
+abbrev pub is_fault : Decision Record → Bool
+is_fault (accepts r) = lacks_length r
+is_fault (refuses number) = true
 
 -- "so does any record of index 1,000,000"; those behind it are never the first
 abbrev pub max_records : ℕ
@@ -41,20 +40,28 @@ first_fault i (p ∷ ps) = cond (is_fault_at i p) i (first_fault (suc i) ps)
 
 -- ---- the answer
 
-abbrev pub with_record : ReadAnswer → List Record → List Record
-with_record (read.Record r) rs = r ∷ rs
-with_record (read.Refused number) rs = rs
+abbrev pub with_record : Decision Record → List Record → List Record
+with_record (accepts r) rs = r ∷ rs
+with_record (refuses number) rs = rs
 
 abbrev pub records_in : List (List ℕ) → List Record
 records_in [] = []
 records_in (p ∷ ps) = with_record (read_record p) (records_in ps)
 
+-- the fault of index i
+abbrev pub faulty_at : ℕ → FaultyRecord
+faulty_at i = record { index = i }
+
 -- "stops with 13 and the index of the first such, .. and no sheet"
-unfoldable pub summarized : List ℕ → SummaryAnswer
+unfoldable pub summarized : List ℕ → Result RecordSummary FaultyRecord
 unfolding parts_of first_fault
 summarized xs =
     let i = first_fault 0 (parts xs) in
-    cond (eqb i (length (parts xs))) (Summary (sheet_of (tally_of (records_in (parts xs))))) (Refused 13 i)
+    cond (eqb i (length (parts xs))) (Ok (sheet_of (tally_of (records_in (parts xs))))) (Err (faulty_at i))
+
+-- the number of every fault
+abbrev pub fault_number : ℕ
+fault_number = 13
 
 -- ---- what is said of faults
 

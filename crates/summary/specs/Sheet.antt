@@ -1,5 +1,5 @@
 -- Document 02, K1, "Round sheet of smears": what a sheet says of records.
-use Rattle.std.specs.Prelude.{Bool, ◌&&◌, cond, List, [], ◌∷◌, ℕ, suc, ◌+◌, ◌/◌, ◌%◌, max, leb, eqb, length}
+use Rattle.std.specs.Prelude.{Bool, ◌&&◌, cond, List, [], ◌∷◌, ℕ, suc, ◌+◌, ◌/◌, ◌%◌, max, leb, eqb, length, get_or, map}
 use Rattle.raster.specs.Direction.{direction_index}
 use Rattle.raster.specs.declared.direction.RasterDirection4.{RasterDirection4}
 use Rattle.raster.specs.declared.direction.RasterDirection4.TheVariants.{Horizontal, DownRight, Vertical, DownLeft}
@@ -60,22 +60,27 @@ binomials_in (r ∷ rs) = cond (is_binomial r) (suc (binomials_in rs)) (binomial
 
 -- ---- the sheet: what is counted, with the means
 
+-- in the order of their numbers
+abbrev pub directions : List RasterDirection4
+directions = Horizontal ∷ DownRight ∷ Vertical ∷ DownLeft ∷ []
+
 abbrev pub tally_of : List Record → Tally
 tally_of rs = record {
   records = length rs;
-  horizontal = lengths_of (lengths_along Horizontal rs);
-  down_right = lengths_of (lengths_along DownRight rs);
-  vertical = lengths_of (lengths_along Vertical rs);
-  down_left = lengths_of (lengths_along DownLeft rs);
+  lengths = map (λ d. lengths_of (lengths_along d rs)) directions;
   binomials = binomials_in rs;
 }
 
+-- the lengths along the direction of a number
+abbrev pub lengths_at : List Lengths → ℕ → Lengths
+lengths_at ls d = get_or ls d (lengths_of [])
+
 abbrev pub sheet_of : Tally → RecordSummary
 sheet_of t = record {
-  horizontal = with_mean t.horizontal;
-  down_right = with_mean t.down_right;
-  vertical = with_mean t.vertical;
-  down_left = with_mean t.down_left;
+  horizontal = with_mean (lengths_at t.lengths 0);
+  down_right = with_mean (lengths_at t.lengths 1);
+  vertical = with_mean (lengths_at t.lengths 2);
+  down_left = with_mean (lengths_at t.lengths 3);
   binomials = t.binomials;
 }
 

@@ -1,27 +1,27 @@
 -- What the fold over a file's records cites: a tally with one more record, with one more part, with more parts.
-use Rattle.std.specs.Prelude.{cond, List, [], ◌∷◌, ℕ, ◌+◌, ◌*◌, ◌≤◌, max}
+use Rattle.std.specs.Prelude.{cond, List, [], ◌∷◌, ℕ, ◌+◌, ◌*◌, ◌≤◌, max, Result, Ok, Err}
+use Rattle.std.proofs.Math.ListN.{set}
+use Rattle.image.specs.Call.{Decision, accepts, refuses}
 use Rattle.image.specs.Refusal.{max_side}
-use Rattle.raster.specs.declared.direction.RasterDirection4.{RasterDirection4}
-use Rattle.raster.specs.declared.direction.RasterDirection4.TheVariants.{Horizontal, DownRight, Vertical, DownLeft}
+use Rattle.raster.specs.Direction.{direction_index}
 use Rattle.record.specs.Record.{read_record}
 use Rattle.record.specs.declared.Record.{Record}
-use Rattle.record.specs.declared.ReadAnswer.{ReadAnswer}
-use Rattle.record.specs.declared.ReadAnswer.TheVariants as read
-use Rattle.summary.specs.Sheet.{is_along, is_binomial}
-use Rattle.summary.specs.File.{max_records, is_fault_at}
+use Rattle.summary.specs.Sheet.{is_line, is_binomial, lengths_at}
+use Rattle.summary.specs.File.{max_records, is_fault_at, faulty_at}
+use Rattle.summary.specs.declared.FaultyRecord.{FaultyRecord}
 use Rattle.summary.specs.declared.kernel.Lengths.{Lengths}
 use Rattle.summary.specs.declared.kernel.Tally.{Tally}
-use Rattle.summary.specs.declared.kernel.TallyAnswer.{TallyAnswer}
-use Rattle.summary.specs.declared.kernel.TallyAnswer.TheVariants as answer
 
 -- ---- one more record
 
 abbrev pub added_length : ℕ → Lengths → Lengths
 added_length n l = record { count = l.count + 1; total = l.total + n; largest = max l.largest n }
 
--- where the record lies along the direction
-abbrev pub added_along : RasterDirection4 → Record → Lengths → Lengths
-added_along d r l = cond (is_along d r) (added_length r.blur_length l) l
+-- a line filter's record has a length more in its direction
+abbrev pub added_lengths : Record → List Lengths → List Lengths
+added_lengths r ls =
+    let d = direction_index r.direction in
+    cond (is_line r) (set ls d (added_length r.blur_length (lengths_at ls d))) ls
 
 abbrev pub added_binomial : Record → ℕ → ℕ
 added_binomial r n = cond (is_binomial r) (n + 1) n
@@ -29,32 +29,28 @@ added_binomial r n = cond (is_binomial r) (n + 1) n
 unfoldable pub added : Tally → Record → Tally
 added t r = record {
   records = t.records + 1;
-  horizontal = added_along Horizontal r t.horizontal;
-  down_right = added_along DownRight r t.down_right;
-  vertical = added_along Vertical r t.vertical;
-  down_left = added_along DownLeft r t.down_left;
+  lengths = added_lengths r t.lengths;
   binomials = added_binomial r t.binomials;
 }
 
 -- ---- one more part, whose index is the number of records before it, and more of them
 
-abbrev pub added_read : Tally → ReadAnswer → Tally
-added_read t (read.Record r) = added t r
-added_read t (read.Refused number) = t
+abbrev pub added_read : Tally → Decision Record → Tally
+added_read t (accepts r) = added t r
+added_read t (refuses number) = t
 
-unfoldable pub added_part : Tally → List ℕ → TallyAnswer
+unfoldable pub added_part : Tally → List ℕ → Result Tally FaultyRecord
 unfolding added
-added_part t p =
-    cond (is_fault_at t.records p) (answer.Refused 13 t.records) (answer.Tally (added_read t (read_record p)))
+added_part t p = cond (is_fault_at t.records p) (Err (faulty_at t.records)) (Ok (added_read t (read_record p)))
 
 -- on from a tally, unless there was a fault
-abbrev pub unless_fault : TallyAnswer → (Tally → TallyAnswer) → TallyAnswer
-unless_fault (answer.Tally t) next = next t
-unless_fault (answer.Refused number i) next = answer.Refused number i
+abbrev pub unless_fault : Result Tally FaultyRecord → (Tally → Result Tally FaultyRecord) → Result Tally FaultyRecord
+unless_fault (Ok t) next = next t
+unless_fault (Err f) next = Err f
 
-unfoldable pub added_parts : Tally → List (List ℕ) → TallyAnswer
+unfoldable pub added_parts : Tally → List (List ℕ) → Result Tally FaultyRecord
 unfolding added_part
-added_parts t [] = answer.Tally t
+added_parts t [] = Ok t
 added_parts t (p ∷ ps) = unless_fault (added_part t p) (λ t'. added_parts t' ps)
 
 -- ---- numbers that records came to: none has a length above that of the largest side (record/proofs/Results:
@@ -66,8 +62,5 @@ pub record HeldLengths (n : ℕ) (l : Lengths) : Type 0 where
 
 pub record Held (t : Tally) : Type 0 where
   pub records : t.records ≤ max_records
-  pub horizontal : HeldLengths t.records t.horizontal
-  pub down_right : HeldLengths t.records t.down_right
-  pub vertical : HeldLengths t.records t.vertical
-  pub down_left : HeldLengths t.records t.down_left
+  pub lengths : (d : ℕ) → HeldLengths t.records (lengths_at t.lengths d)
   pub binomials : t.binomials ≤ t.records

@@ -4,12 +4,15 @@
 pub mod kernel;
 
 ghost use Rattle.std.specs.Prelude.{◌≡◌};
-ghost use Rattle.summary.specs.File.{summarized};
+ghost use Rattle.image.specs.Call.{number_of_refusal};
+ghost use Rattle.summary.specs.File.{summarized, fault_number};
 
-use kernel::{Tally, TallyAnswer};
+use image::Refusal;
+use kernel::Tally;
+use std::fmt;
 
 // The blur lengths along a direction; the mean is whole part and remainder over the count. All 0 for none.
-#[derive(Clone, Copy)]
+#[derive(Clone, Copy, Debug, PartialEq, Eq)]
 pub struct DirectionSummary {
     pub count: u64,
     pub total: u64,
@@ -18,7 +21,8 @@ pub struct DirectionSummary {
     pub remainder: u64,
 }
 
-#[derive(Clone, Copy)]
+// Directions by name: an array of four would say no more, and C has the names.
+#[derive(Clone, Copy, Debug, PartialEq, Eq)]
 pub struct RecordSummary {
     pub horizontal: DirectionSummary,
     pub down_right: DirectionSummary,
@@ -27,20 +31,54 @@ pub struct RecordSummary {
     pub binomials: u64,
 }
 
-// The sheet, or 13 and the index of the first fault.
-#[derive(Clone, Copy)]
-pub enum SummaryAnswer {
-    Summary(RecordSummary),
-    Refused(u8, usize),
+// Five numbers.
+impl fmt::Display for DirectionSummary {
+    fn fmt<W: fmt::Write>(&self, f: &mut fmt::Formatter<W>) -> fmt::Result {
+        write!(
+            f,
+            "{} {} {} {} {}",
+            self.count, self.total, self.largest, self.mean, self.remainder
+        )
+    }
 }
 
-// The sheet over records back to back.
-pub fn summarize(records: &[u8]) -> SummaryAnswer
+// A line a direction, and the number of binomials.
+impl fmt::Display for RecordSummary {
+    fn fmt<W: fmt::Write>(&self, f: &mut fmt::Formatter<W>) -> fmt::Result {
+        writeln!(f, "{}", self.horizontal)?;
+        writeln!(f, "{}", self.down_right)?;
+        writeln!(f, "{}", self.vertical)?;
+        writeln!(f, "{}", self.down_left)?;
+        write!(f, "{}", self.binomials)
+    }
+}
+
+// The first record of a file that has no place on a sheet.
+#[derive(Clone, Copy, Debug, PartialEq, Eq)]
+pub struct FaultyRecord {
+    // Counted from 0.
+    pub index: usize,
+}
+
+impl FaultyRecord {
+    // The refusal of a file that has a fault.
+    pub fn refusal(self) -> Refusal
+        ensures { number_of_refusal result ≡ fault_number }
+    {
+        Refusal::InvalidRecord
+    }
+}
+
+impl fmt::Display for FaultyRecord {
+    fn fmt<W: fmt::Write>(&self, f: &mut fmt::Formatter<W>) -> fmt::Result {
+        write!(f, "{} {}", self.refusal(), self.index)
+    }
+}
+
+// The sheet over records back to back, or the first fault.
+pub fn summarize(records: &[u8]) -> Result<RecordSummary, FaultyRecord>
     ensures { result ≡ summarized records.now }
 {
-    let start = Tally::empty();
-    match start.add_all(records) {
-        TallyAnswer::Tally(tally) => SummaryAnswer::Summary(tally.sheet()),
-        TallyAnswer::Refused(number, index) => SummaryAnswer::Refused(number, index),
-    }
+    let tally = Tally::empty().add_all(records)?;
+    Ok(tally.sheet())
 }

@@ -13,23 +13,21 @@ use Rattle.raster.specs.declared.direction.RasterDirection4.{RasterDirection4}
 use Rattle.raster.specs.declared.direction.RasterDirection4.TheVariants.{Horizontal, DownRight, Vertical, DownLeft}
 use Rattle.raster.specs.Lines.{line_length}
 use Rattle.swings.specs.declared.Swing.{Swing}
-use Rattle.swings.specs.declared.rises.Mark.{Mark}
-use Rattle.swings.specs.declared.rises.Mark.TheVariants.{At, Unset}
-use Rattle.swings.specs.declared.rises.Rise.TheVariants as rise
+use Rattle.std.specs.Prelude.{Option, Some, None}
 use Rattle.swings.specs.Line.{first_lines, step_pixels}
 use Rattle.swings.specs.Rise.{double, swing_of, level_of, crossed_at, place_at, crossing_of, low_part, high_part}
 use Rattle.swings.specs.Rise.{rise_between, rise_of}
 use Rattle.swings.specs.Swings.{scaled_by, swings_from}
-use Rattle.walks.specs.Each.{Each}
+use Rattle.std.specs.List.{AllByRecursion as Each}
 use Rattle.numbers.proofs.Test.{cond_both}
 use Rattle.floats.proofs.Rounded.{Bounded, AtLeastOne}
 use Rattle.floats.proofs.AboveZero.{AboveZero, above_sub, above_mul}
 use Rattle.swings.proofs.EachSwing.{RiseIs, rise_map, picture_each}
 
 -- ---- rises
-abbrev MarkFits : Mark → Type 0
-MarkFits Unset = Unit {0}
-MarkFits (At p) = T (fits binary64 p)
+abbrev MarkFits : Option Float → Type 0
+MarkFits None = Unit {0}
+MarkFits (Some p) = T (fits binary64 p)
 
 place_fits : (i : ℕ) (level v0 v1 : Float) → T (fits binary64 (place_at i level v0 v1))
 unfolding place_at
@@ -40,27 +38,27 @@ unfolding crossing_of
 crossing_fits x rising level i zero = tt
 crossing_fits x rising level i (suc k) =
     cond_both MarkFits (crossed_at rising level (double x i) (double x (suc i)))
-    (At (place_at i level (double x i) (double x (suc i)))) (crossing_of x rising level (suc i) k)
+    (Some (place_at i level (double x i) (double x (suc i)))) (crossing_of x rising level (suc i) k)
     (place_fits i level (double x i) (double x (suc i))) (crossing_fits x rising level (suc i) k)
 
 abbrev Wide : Swing → Type 0
 Wide s = AboveZero s.width
 
-between_above : (low high : Mark) (size : ℕ) → MarkFits low → MarkFits high → RiseIs Wide (rise_between low high size)
+between_above : (low high : Option Float) (size : ℕ) → MarkFits low → MarkFits high → RiseIs Wide (rise_between low high size)
 unfolding rise_between
-between_above Unset high size h k = tt
-between_above (At p0) Unset size h k = tt
-between_above (At p0) (At p1) size h k = go (lt p0 p1) refl
+between_above None high size h k = tt
+between_above (Some p0) None size h k = tt
+between_above (Some p0) (Some p1) size h k = go (lt p0 p1) refl
   where
     go : (t : Bool) → lt p0 p1 ≡ t
-        → RiseIs Wide (cond t (rise.Found (record { width = sub binary64 p1 p0; swing = pos size })) rise.Nothing)
+        → RiseIs Wide (cond t (Some (record { width = sub binary64 p1 p0; swing = pos size })) None)
     go true e = record { above = above_sub p1 p0 k h e; holds = sub-fits binary64 p1 p0 }
     go false e = tt
 
 rise_above : (least : ℕ) (x : ℕ → ℕ) (a b : ℕ) → RiseIs Wide (rise_of least x a b)
 unfolding rise_of
 rise_above least x a b =
-    cond_both (RiseIs Wide) (ltb (swing_of (x a) (x b)) least) rise.Nothing _ tt
+    cond_both (RiseIs Wide) (ltb (swing_of (x a) (x b)) least) None _ tt
     (between_above (crossing_of x (ltb (x a) (x b)) (level_of (x a) (x b) low_part) a (b - a))
     (crossing_of x (ltb (x a) (x b)) (level_of (x a) (x b) high_part) a (b - a)) (swing_of (x a) (x b))
     (crossing_fits x (ltb (x a) (x b)) (level_of (x a) (x b) low_part) a (b - a))

@@ -9,8 +9,7 @@ use mathlib.Core.List.{List, [], ◌∷◌}
 use lib.ListN.{length, length-append}
 use lib.Ieee.{Float}
 use Rattle.swings.specs.declared.Swing.{Swing}
-use Rattle.swings.specs.declared.rises.Rise.{Rise}
-use Rattle.swings.specs.declared.rises.Rise.TheVariants.{Found, Nothing}
+use Rattle.std.specs.Prelude.{Option, Some, None}
 use Rattle.swings.specs.Line.{Lines}
 use Rattle.swings.specs.Rise.{rise_of}
 use Rattle.swings.specs.Runs.{Run, Slope, Level, Rising, Falling, slope_between, turns_at, onward_from, last_run}
@@ -49,9 +48,9 @@ runs_count x last a = go (dec_lt a last)
     go (no h) = rw (runs_none x last a (omega arith)) zero-le
 
 -- ---- swings
-rise_count : (pixel : Float) (r : Rise) (others : List Swing) → length (with_rise pixel r others) ≤ suc (length others)
-rise_count pixel (Found s) others = le_refl (suc (length others))
-rise_count pixel Nothing others = omega arith
+rise_count : (pixel : Float) (r : Option Swing) (others : List Swing) → length (with_rise pixel r others) ≤ suc (length others)
+rise_count pixel (Some s) others = le_refl (suc (length others))
+rise_count pixel None others = omega arith
 
 pub swings_count : (least : ℕ) (pixel : Float) (x : ℕ → ℕ) (rs : List Run)
     → length (swings_of least pixel x rs) ≤ length rs

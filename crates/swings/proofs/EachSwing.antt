@@ -5,33 +5,32 @@ use native.Mathlib.Decide.{dec_lt}
 use mathlib.Core.List.{List, [], ◌∷◌}
 use lib.Ieee.{Float}
 use Rattle.swings.specs.declared.Swing.{Swing}
-use Rattle.swings.specs.declared.rises.Rise.{Rise}
-use Rattle.swings.specs.declared.rises.Rise.TheVariants.{Found, Nothing}
+use Rattle.std.specs.Prelude.{Option, Some, None}
 use Rattle.swings.specs.Line.{Lines}
 use Rattle.swings.specs.Rise.{rise_of}
 use Rattle.swings.specs.Runs.{Run, Level, runs_up_to}
 use Rattle.swings.specs.Swings.{scaled_by, with_rise, swings_of, line_swings, swings_from}
-use Rattle.walks.specs.Each.{Each}
-use Rattle.walks.proofs.Each.{each_append}
+use Rattle.std.specs.List.{AllByRecursion as Each}
+use Rattle.numbers.proofs.Each.{each_append}
 use Rattle.swings.proofs.Runs.{RunsWithin, runs_within}
 use Rattle.swings.proofs.LineSwings.{swings_short, swings_end, line_swings_holds}
 
-abbrev pub RiseIs : (Swing → Type 0) → Rise → Type 0
-RiseIs P Nothing = Unit {0}
-RiseIs P (Found s) = P s
+abbrev pub RiseIs : (Swing → Type 0) → Option Swing → Type 0
+RiseIs P None = Unit {0}
+RiseIs P (Some s) = P s
 
-pub rise_map : (P Q : Swing → Type 0) → ((s : Swing) → P s → Q s) → (r : Rise) → RiseIs P r → RiseIs Q r
-rise_map P Q f Nothing h = tt
-rise_map P Q f (Found s) h = f s h
+pub rise_map : (P Q : Swing → Type 0) → ((s : Swing) → P s → Q s) → (r : Option Swing) → RiseIs P r → RiseIs Q r
+rise_map P Q f None h = tt
+rise_map P Q f (Some s) h = f s h
 
 -- lines of at most N + 1 samples, each of the kind that `rise` speaks of
 module _ (least : ℕ) (pixel : Float) (N : ℕ) (P : Swing → Type 0) (Kind : (ℕ → ℕ) → Type 0)
     (rise : (x : ℕ → ℕ) → Kind x → (a b : ℕ) → a ≤ N → b ≤ N
     → RiseIs (λ (s : Swing). P (scaled_by pixel s)) (rise_of least x a b)) where
-  with-rise : (r : Rise) (ss : List Swing) → RiseIs (λ (s : Swing). P (scaled_by pixel s)) r → Each P ss
+  with-rise : (r : Option Swing) (ss : List Swing) → RiseIs (λ (s : Swing). P (scaled_by pixel s)) r → Each P ss
       → Each P (with_rise pixel r ss)
-  with-rise Nothing ss h k = k
-  with-rise (Found s) ss h k = (h, k)
+  with-rise None ss h k = k
+  with-rise (Some s) ss h k = (h, k)
 
   runs-each : (x : ℕ → ℕ) → Kind x → (rs : List Run) → RunsWithin N rs → Each P (swings_of least pixel x rs)
   unfolding swings_of

@@ -3,14 +3,14 @@
 use Prim.Native.Nat.{ℕ, ◌+◌, ◌-◌, ◌≤◌, ◌<◌}
 use native.Mathlib.Numerals.{add-one}
 use mathlib.Core.Path.{◌≡◌, refl, sym, ◌∙◌, ap}
+use native.Mathlib.Omega.{arith}
 use mathlib.Core.Bool.{Bool, true, false, cond}
 use mathlib.Core.List.{List, [], ◌∷◌, ◌++◌}
 use lib.Dec.{ltb}
 use borrow.Author.Tests.{ltb-true, lt-ltb, le-ltb}
 use lib.Ieee.{Float}
 use Rattle.swings.specs.declared.Swing.{Swing}
-use Rattle.swings.specs.declared.rises.Rise.TheVariants.{Found, Nothing}
-use Rattle.swings.specs.declared.run.RunEnd.TheVariants.{At, Level}
+use Rattle.std.specs.Prelude.{Some, None}
 use Rattle.swings.specs.Line.{Lines}
 use Rattle.swings.specs.Rise.{swing_of, rise_of}
 use Rattle.swings.specs.Runs.{Run, runs_up_to, runs_after, steep, RunTo, SteepFrom}
@@ -47,31 +47,43 @@ swings_steep least pixel x (r ∷ rs) =
     go true e h = rw (rise_small least x r.first r.last (ltb-true _ _ e)) h
     go false e h = ap (with_rise pixel (rise_of least x r.first r.last)) h
 
-pub swings_from_lem : (least : ℕ) (pixel : Float) (x : ℕ → ℕ) (n b r : ℕ) → 3 ≤ n → SteepFrom x least (n - 1) b r
-    → line_swings least pixel x n b ≡ line_swings least pixel x n r
-swings_from_lem least pixel x n b r h s =
-    line_swings_holds least pixel x n b h
-    ∙ swings_steep least pixel x (runs_up_to x (n - 1) b)
-    ∙ ap (swings_of least pixel x) s.runs
-    ∙ sym (swings_steep least pixel x (runs_up_to x (n - 1) r))
-    ∙ sym (line_swings_holds least pixel x n r h)
+-- ---- the swings of a line up to sample `last`
+module _ (least : ℕ) (pixel : Float) (x : ℕ → ℕ) (last : ℕ) (h : 2 ≤ last) where
+  abbrev swings-at : ℕ → List Swing
+  swings-at a = line_swings least pixel x (last + 1) a
 
-pub swings_level : (least : ℕ) (pixel : Float) (x : ℕ → ℕ) (n a : ℕ) → 3 ≤ n → RunTo x (n - 1) a Level
-    → line_swings least pixel x n a ≡ []
-unfolding swings_of
-swings_level least pixel x n a h r = rw (line_swings_holds least pixel x n a h, r.runs)
+  along : (a : ℕ) → swings-at a ≡ swings_of least pixel x (runs_up_to x last a)
+  along a =
+      let end : last + 1 - 1 ≡ last = omega arith in
+      line_swings_holds least pixel x (last + 1) a (omega arith)
+      ∙ ap (λ (k : ℕ). swings_of least pixel x (runs_up_to x k a)) end
 
-module _ (least : ℕ) (pixel : Float) (x : ℕ → ℕ) (n a b : ℕ) (h : 3 ≤ n) (r : RunTo x (n - 1) a (At b)) where
-  swings-run : line_swings least pixel x n a ≡ with_rise pixel (rise_of least x a b) (line_swings least pixel x n b)
+  pub swings_past : (a : ℕ) → last ≤ a → swings-at a ≡ []
   unfolding swings_of
-  swings-run = rw (line_swings_holds least pixel x n a h, line_swings_holds least pixel x n b h, r.runs)
+  swings_past a k = rw (along a, runs_none x last a k)
 
-  pub swings_found : (s : Swing) → rise_of least x a b ≡ Found s
-      → line_swings least pixel x n a ≡ scaled_by pixel s ∷ line_swings least pixel x n b
-  swings_found s e = rw (swings-run, e)
+  pub swings_level : (a : ℕ) → RunTo x last a None → swings-at a ≡ []
+  unfolding swings_of
+  swings_level a r = rw (along a, r.runs)
 
-  pub swings_nothing : rise_of least x a b ≡ Nothing → line_swings least pixel x n a ≡ line_swings least pixel x n b
-  swings_nothing e = rw (swings-run, e)
+  pub swings_passed : (b r : ℕ) → SteepFrom x least last b r → swings-at b ≡ swings-at r
+  swings_passed b r s =
+      along b
+      ∙ swings_steep least pixel x (runs_up_to x last b)
+      ∙ ap (swings_of least pixel x) s.runs
+      ∙ sym (swings_steep least pixel x (runs_up_to x last r))
+      ∙ sym (along r)
+
+  module _ (a b : ℕ) (r : RunTo x last a (Some b)) where
+    swings-run : swings-at a ≡ with_rise pixel (rise_of least x a b) (swings-at b)
+    unfolding swings_of
+    swings-run = rw (along a, along b, r.runs)
+
+    pub swings_found : (s : Swing) → rise_of least x a b ≡ Some s → swings-at a ≡ scaled_by pixel s ∷ swings-at b
+    swings_found s e = rw (swings-run, e)
+
+    pub swings_nothing : rise_of least x a b ≡ None → swings-at a ≡ swings-at b
+    swings_nothing e = rw (swings-run, e)
 
 module _ (least : ℕ) (pixel : Float) (lines : Lines) (k a : ℕ) where
   pub lines_none : lines.count ≤ k → swings_from least pixel lines k a (lines.count - k) ≡ []

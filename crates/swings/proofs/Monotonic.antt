@@ -9,7 +9,7 @@ use lib.Dec.{ltb}
 use borrow.Author.Tests.{ltb-true, ltb-false}
 use Rattle.swings.specs.Runs.{Run, Slope, Level, Rising, Falling, slope_between, turns_at, onward_from, last_run}
 use Rattle.swings.specs.Runs.{runs_from, runs_up_to, runs_after, slope_of}
-use Rattle.walks.specs.Each.{Each}
+use Rattle.std.specs.List.{AllByRecursion as Each}
 use Rattle.swings.proofs.Slopes.{onward_level}
 
 abbrev pub StepOn : Slope → ℕ → ℕ → Type 0

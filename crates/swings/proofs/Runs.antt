@@ -2,16 +2,19 @@
 -- and at the line's end; that small runs may be passed; and that every run lies in the line.
 use Prim.Native.Nat.{ℕ, zero, suc, ◌+◌, ◌-◌, ◌≤◌, ◌<◌}
 use native.Mathlib.Numerals.{add-one}
-use mathlib.Core.Path.{◌≡◌, refl, sym, ap, ◌∙◌}
+use mathlib.Core.Path.{◌≡◌, refl, sym, ap, ap₂, ◌∙◌, subst}
 use native.Mathlib.Omega.{arith}
 use mathlib.Core.Bool.{Bool, true, false, cond, not, ◌&&◌, true≢false}
 use mathlib.Core.List.{List, [], ◌∷◌}
-use lib.Dec.{ltb}
+use lib.Dec.{leb, ltb}
+use borrow.Author.Tests.{leb-false, lt-ltb}
+use Rattle.std.specs.Int.{abs_diff}
 use Rattle.numbers.proofs.Test.{cond_both}
 use Rattle.swings.specs.Runs.{Run, Slope, Level, Rising, Falling, slope_between, turns_at, onward_from, last_run}
-use Rattle.swings.specs.Runs.{runs_from, runs_up_to, slope_of, steep}
+use Rattle.swings.specs.Runs.{runs_from, runs_up_to, slope_of, SlopeEnd, steep}
 use Rattle.swings.specs.Rise.{swing_of}
 use Rattle.swings.proofs.Line.{left_more, left_none}
+use Rattle.swings.proofs.Rise.{swing_is}
 use Rattle.swings.proofs.Slopes.{onward_level, onward_slope, step_level, step_slope}
 
 module _ (x : ℕ → ℕ) (last a : ℕ) where
@@ -74,6 +77,21 @@ module _ (x : ℕ → ℕ) (last : ℕ) (rising : Bool) (i a : ℕ) where
       ended true = refl
       ended false = refl
 
+-- .. so this is where it ends
+module _ (x : ℕ → ℕ) (last from : ℕ) (rising : Bool) (i : ℕ) (past : from ≤ i) (within : i ≤ last)
+    (same : (a : ℕ) → runs_from x a (slope_of rising) from (last - from) ≡ runs_from x a (slope_of rising) i (last - i)) where
+  pub ends_turned : i < last → {v w : ℕ} → v ≡ x i → w ≡ x (i + 1)
+      → turns_at (slope_of rising) (slope_between v w) ≡ true → SlopeEnd x last from rising i
+  ends_turned h {v} {w} p q e =
+      record { from = past; within = within; same = same; ends = λ a. runs_turn x last a (slope_of rising) i h (rw (p, q) at e) }
+
+  pub ends_line : last ≤ i → SlopeEnd x last from rising last
+  ends_line h =
+      let end : i ≡ last = omega arith in
+      let r : SlopeEnd x last from rising i =
+      record { from = past; within = within; same = same; ends = λ a. slope_last x last rising i a h } in
+      subst (SlopeEnd x last from rising) end r
+
 -- ---- where it turns, the next run goes the other way
 turned_slope : (rising : Bool) (step : Slope) → turns_at (slope_of rising) step ≡ true → step ≡ slope_of (not rising)
 turned_slope true Level e = absurd (true≢false (sym e))
@@ -101,18 +119,19 @@ module _ (x : ℕ → ℕ) (least last b : ℕ) where
   -- on
   pub left_on : (a value : ℕ) (rises : Bool) (v i : ℕ) → Left a value rises v i → i < last → (w : ℕ) → w ≡ x (i + 1)
       → (t : Bool) → t ≡ turns_at (slope_of rises) (slope_between v w)
-      → (not (ltb (swing_of value v) least) && t) ≡ false
+      → (change : ℕ) → change ≡ abs_diff value v → (leb least change && t) ≡ false
       → Left (cond t i a) (cond t v value) (cond t (not rises) rises) w (i + 1)
   unfolding steep
-  left_on a value rises v i l h w next t e f = go t (rw (l.here, next) at (sym e)) (rw (l.there, l.here) at f)
+  left_on a value rises v i l h w next t e change d f = go t (rw (l.here, next) at (sym e)) f
     where
-      small : (t : Bool) → ltb (swing_of (x a) (x i)) least ≡ t → (not t && true) ≡ false
-          → ltb (swing_of (x a) (x i)) least ≡ true
-      small true e f = e
-      small false e f = absurd (true≢false f)
+      size : change ≡ swing_of (x a) (x i)
+      size = d ∙ swing_is value v ∙ ap₂ swing_of l.there l.here
 
-      go : (t : Bool) → turns_at (slope_of rises) (slope_between (x i) (x (i + 1))) ≡ t
-          → (not (ltb (swing_of (x a) (x i)) least) && t) ≡ false
+      small : (t : Bool) → leb least change ≡ t → (t && true) ≡ false → ltb (swing_of (x a) (x i)) least ≡ true
+      small true e f = absurd (true≢false f)
+      small false e f = rw (← size) (lt-ltb change least (leb-false least change e))
+
+      go : (t : Bool) → turns_at (slope_of rises) (slope_between (x i) (x (i + 1))) ≡ t → (leb least change && t) ≡ false
           → Left (cond t i a) (cond t v value) (cond t (not rises) rises) w (i + 1)
       go true e f =
           record {
@@ -129,7 +148,7 @@ module _ (x : ℕ → ℕ) (least last b : ℕ) where
                 ∙ ap (steep least x) (l.runs ∙ runs_turn x last a (slope_of rises) i h e)
                 ∙ ap (λ (t : Bool). cond t (steep least x (runs_up_to x last i))
                 (record { first = a; last = i } ∷ steep least x (runs_up_to x last i)))
-                (small (ltb (swing_of (x a) (x i)) least) refl f);
+                (small (leb least change) refl f);
           }
       go false e f =
           record {

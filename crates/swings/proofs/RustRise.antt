@@ -11,16 +11,14 @@ use lib.Ieee.{Float, le}
 use lib.Ieee.Fits.{and_l, and_r}
 use borrow.Author.Tests.{lt-ltb, le-ltb}
 use Rattle.numbers.proofs.Test.{by_test, false_of_not}
-use Rattle.swings.specs.declared.rises.Mark.{Mark}
-use Rattle.swings.specs.declared.rises.Mark.TheVariants.{At, Unset}
-use Rattle.swings.specs.declared.rises.Rise.{Rise}
-use Rattle.swings.specs.declared.rises.Rise.TheVariants.{Nothing}
+use Rattle.std.specs.Prelude.{Option, Some, None}
+use Rattle.swings.specs.declared.Swing.{Swing}
 use Rattle.swings.specs.Rise.{double, swing_of, level_of, crossed_at, place_at, crossing_of, low_part, high_part}
 use Rattle.swings.specs.Rise.{rise_between, rise_of}
 use Rattle.swings.specs.RustRise.{marks_from, rust_rise}
 use Rattle.swings.specs.Runs.{Run, Rising, Falling, runs_after, slope_of}
-use Rattle.walks.specs.Each.{Each}
-use Rattle.walks.proofs.Each.{each_map}
+use Rattle.std.specs.List.{AllByRecursion as Each}
+use Rattle.numbers.proofs.Each.{each_map}
 use Rattle.swings.proofs.Monotonic.{Monotonic, along, RunMonotonic, runs_monotonic}
 use Rattle.swings.proofs.Levels.{rising_apart, falling_apart}
 
@@ -32,58 +30,58 @@ crosses x rising level i = crossed_at rising level (double x i) (double x (suc i
 module _ (x : ℕ → ℕ) (rising : Bool) (lo hi : Float) where
   -- once the low mark is set, the high one is that of the first crossing
   low-set : (p : Float) (i k : ℕ)
-      → marks_from x rising lo hi (At p) Unset i k ≡ record { low = At p; high = crossing_of x rising hi i k }
+      → marks_from x rising lo hi (Some p) None i k ≡ record { low = Some p; high = crossing_of x rising hi i k }
   unfolding marks_from crossing_of
   low-set p i zero = refl
   low-set p i (suc k) = go (crosses x rising hi i) (low-set p (suc i) k)
     where
-      go : (t : Bool) → marks_from x rising lo hi (At p) Unset (suc i)
-          k ≡ record { low = At p; high = crossing_of x rising hi (suc i) k }
+      go : (t : Bool) → marks_from x rising lo hi (Some p) None (suc i)
+          k ≡ record { low = Some p; high = crossing_of x rising hi (suc i) k }
           → cond (t && true) (record {
-            low = At p;
+            low = Some p;
             high =
-                cond t (At (place_at i hi (double x i) (double x (suc i)))) Unset;
+                cond t (Some (place_at i hi (double x i) (double x (suc i)))) None;
           })
-          (marks_from x rising lo hi (At p) (cond t (At (place_at i hi (double x i) (double x (suc i)))) Unset) (suc i) k)
+          (marks_from x rising lo hi (Some p) (cond t (Some (place_at i hi (double x i) (double x (suc i)))) None) (suc i) k)
           ≡ record {
-            low = At p;
+            low = Some p;
             high =
-                cond t (At (place_at i hi (double x i) (double x (suc i)))) (crossing_of x rising hi (suc i) k);
+                cond t (Some (place_at i hi (double x i) (double x (suc i)))) (crossing_of x rising hi (suc i) k);
           }
       go true e = refl
       go false e = e
 
   -- where no step crosses the low level
   module _ (a b : ℕ) (never : (j : ℕ) → a ≤ j → j < b → crosses x rising lo j ≡ false) where
-    never-crossing : (i k : ℕ) → a ≤ i → i + k ≤ b → crossing_of x rising lo i k ≡ Unset
+    never-crossing : (i k : ℕ) → a ≤ i → i + k ≤ b → crossing_of x rising lo i k ≡ None
     unfolding crossing_of
     never-crossing i zero h l = refl
     never-crossing i (suc k) h l = rw (never i h (omega arith)) (never-crossing (suc i) k (omega arith) (omega arith))
 
-    never-set : (high : Mark) (i k : ℕ) → a ≤ i → i + k ≤ b → (marks_from x rising lo hi Unset high i k).low ≡ Unset
+    never-set : (high : Option Float) (i k : ℕ) → a ≤ i → i + k ≤ b → (marks_from x rising lo hi None high i k).low ≡ None
     unfolding marks_from
     never-set high i zero h l = refl
     never-set high i (suc k) h l =
         rw (never i h (omega arith))
         (go (crosses x rising hi i) (λ m. never-set m (suc i) k (omega arith) (omega arith)))
       where
-        go : (t : Bool) → ((m : Mark) → (marks_from x rising lo hi Unset m (suc i) k).low ≡ Unset)
+        go : (t : Bool) → ((m : Option Float) → (marks_from x rising lo hi None m (suc i) k).low ≡ None)
             → (cond (t && false) (record {
-              low = Unset;
+              low = None;
               high =
-                  cond t (At (place_at i hi (double x i) (double x (suc i)))) high;
+                  cond t (Some (place_at i hi (double x i) (double x (suc i)))) high;
             })
-            (marks_from x rising lo hi Unset (cond t (At (place_at i hi (double x i) (double x (suc i)))) high) (suc i)
+            (marks_from x rising lo hi None (cond t (Some (place_at i hi (double x i) (double x (suc i)))) high) (suc i)
             k)).low
-            ≡ Unset
-        go true e = e (At (place_at i hi (double x i) (double x (suc i))))
+            ≡ None
+        go true e = e (Some (place_at i hi (double x i) (double x (suc i))))
         go false e = e high
 
   -- where no step crosses the low level after one that crosses the high level
   module _ (a b size : ℕ)
       (apart : (i j : ℕ) → a ≤ i → i < j → j < b → crosses x rising hi i ≡ true → crosses x rising lo j ≡ false) where
     same-rise : (i k : ℕ) → a ≤ i → i + k ≤ b
-        → rise_between (marks_from x rising lo hi Unset Unset i k).low (marks_from x rising lo hi Unset Unset i k).high
+        → rise_between (marks_from x rising lo hi None None i k).low (marks_from x rising lo hi None None i k).high
         size
         ≡ rise_between (crossing_of x rising lo i k) (crossing_of x rising hi i k) size
     unfolding marks_from crossing_of rise_between
@@ -99,7 +97,7 @@ module _ (x : ℕ → ℕ) (rising : Bool) (lo hi : Float) where
         rw (
           e,
           f,
-          never-set (suc i) b never (At (place_at i hi (double x i) (double x (suc i)))) (suc i) k (le_refl (suc i))
+          never-set (suc i) b never (Some (place_at i hi (double x i) (double x (suc i)))) (suc i) k (le_refl (suc i))
               (omega arith),
           never-crossing (suc i) b never (suc i) k (le_refl (suc i)) (omega arith),
         ))
@@ -149,7 +147,7 @@ module _ (x : ℕ → ℕ) (byte : (j : ℕ) → x j ≤ 255) where
       let lo = level_of (x a) (x b) low_part in
       let m1 : Monotonic x (slope_of t) a b =
       subst (λ (u : Bool). Monotonic x (slope_of u) a b) (sym (run-rising rising a b m)) m in
-      ap (λ (r : Rise). cond (ltb (swing_of (x a) (x b)) least) Nothing r)
+      ap (λ (r : Option Swing). cond (ltb (swing_of (x a) (x b)) least) None r)
       (same-rise x t lo (level_of (x a) (x b) high_part) a (a + (b - a)) (swing_of (x a) (x b))
       (λ i j h k l e. false_of_not (crosses x t lo j) (not_after t a b m1 i j h k (omega arith) e)) a (b - a)
       (le_refl a) (le_refl (a + (b - a))))

@@ -9,10 +9,7 @@ use mathlib.Core.List.{List, [], ◌∷◌, ◌++◌}
 use lib.Dec.{ltb}
 use lib.Ieee.{Float}
 use Rattle.swings.specs.declared.Swing.{Swing}
-use Rattle.swings.specs.declared.rises.Mark.{Mark}
-use Rattle.swings.specs.declared.rises.Mark.TheVariants.{At}
-use Rattle.swings.specs.declared.scan.OnLine.{OnLine}
-use Rattle.swings.specs.declared.scan.OnLine.TheVariants.{Next, End}
+use Rattle.std.specs.Prelude.{Option, Some, None}
 use Rattle.swings.specs.Line.{Lines}
 use Rattle.swings.specs.Rise.{double, level_of, crossed_at, place_at, crossing_of, low_part, high_part, rise_of}
 use Rattle.swings.specs.Runs.{Run, Slope, Level, slope_between, turns_at, onward_from, runs_from, runs_up_to}
@@ -39,8 +36,8 @@ module _ {x y : ℕ → ℕ} (N : ℕ) (same : (j : ℕ) → j ≤ N → x j ≡
   crossing-same rising level i zero h = refl
   crossing-same rising level i (suc k) h =
       rw (same i (omega arith), same (suc i) (omega arith))
-      (ap (λ (later : Mark). cond (crossed_at rising level (double y i) (double y (suc i)))
-      (At (place_at i level (double y i) (double y (suc i)))) later)
+      (ap (λ (later : Option Float). cond (crossed_at rising level (double y i) (double y (suc i)))
+      (Some (place_at i level (double y i) (double y (suc i)))) later)
       (crossing-same rising level (suc i) k (omega arith)))
 
   rise-same : (least a b : ℕ) → a ≤ N → b ≤ N → rise_of least x a b ≡ rise_of least y a b
@@ -79,12 +76,12 @@ line_same least pixel {x} {y} n a same = go (dec_lt n 3) (dec_lt a (n - 1))
         ∙ sym (line_swings_holds least pixel y n a (omega arith))
 
 -- what a scan of a line says, of another with the same samples
-pub remaining_same : (least : ℕ) (pixel : Float) {x y : ℕ → ℕ} (n a : ℕ) (o : OnLine) → ((j : ℕ) → j < n → x j ≡ y j)
+pub remaining_same : (least : ℕ) (pixel : Float) {x y : ℕ → ℕ} (n a : ℕ) (o : Option (Swing × ℕ)) → ((j : ℕ) → j < n → x j ≡ y j)
     → line_swings least pixel x n a ≡ remaining_on_line least pixel x n o
     → line_swings least pixel y n a ≡ remaining_on_line least pixel y n o
-remaining_same least pixel n a (Next s b) same e = sym (line_same least pixel n a same) ∙ e
-    ∙ ap (λ (l : List Swing). s ∷ l) (line_same least pixel n b same)
-remaining_same least pixel n a End same e = sym (line_same least pixel n a same) ∙ e
+remaining_same least pixel n a (Some r) same e = sym (line_same least pixel n a same) ∙ e
+    ∙ ap (λ (l : List Swing). r.0 ∷ l) (line_same least pixel n r.1 same)
+remaining_same least pixel n a None same e = sym (line_same least pixel n a same) ∙ e
 
 -- j lines from line k on
 pub swings_same : (least : ℕ) (pixel : Float) (p q : Lines) → ((k : ℕ) → p.len k ≡ q.len k)

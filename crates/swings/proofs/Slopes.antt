@@ -58,16 +58,13 @@ change_up v w = go (ltb v w) refl
     go true e = omega (arith, linear, up_sub (pos w) (pos v), ltb-true v w e)
     go false e = omega (arith, linear, up_sub (pos w) (pos v), ltb-false v w e)
 
--- a change of bytes is small, and not 0 where they differ
+-- a change of bytes is small
 pub change_small : (v w : ℕ) → v ≤ 255 → w ≤ 255 → nat_abs (pos w -ℤ pos v) ≤ 255
 change_small v w h k = go (pos w -ℤ pos v) (up_sub (pos w) (pos v))
   where
     go : (z : ℤ) → up z + (0 + v) ≡ dn z + (w + 0) → nat_abs z ≤ 255
     go (pos n) e = omega arith
     go (negsuc n) e = omega arith
-
-pub change_some : (v w : ℕ) → (v ≡ w → ⊥) → pos w -ℤ pos v ≡ pos 0 → ⊥
-change_some v w d e = d (omega (arith, linear, up_sub (pos w) (pos v), e))
 
 pub turns_product : (slope : ℤ) → (slope ≡ pos 0 → ⊥) → (v w : ℕ)
     → lt_z (slope *ℤ (pos w -ℤ pos v)) (pos 0) ≡ turns_at (slope_of (lt_z (pos 0) slope)) (slope_between v w)

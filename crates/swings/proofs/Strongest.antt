@@ -1,9 +1,12 @@
--- The strongest swing, found record by record.
+-- The strongest swing, found record by record. The stronger of two is std's greater one.
 use mathlib.Core.Path.{◌≡◌, refl, sym, ap, ◌∙◌}
 use mathlib.Core.Bool.{Bool, true, false, not, cond}
 use mathlib.Core.List.{List, [], ◌∷◌, ◌++◌}
 use lib.Dec.{T, leb, leb→le, nleb→lt}
 use lib.IntN.{ℤ, pos, negsuc}
+use lib.Signed.{lt_z, le_z}
+use Rattle.std.specs.Int.{int_max}
+use Rattle.numbers.proofs.Int.Linear.{linear}
 use native.Mathlib.Omega.{arith}
 use Prim.Native.Nat.{ℕ, ◌≤◌, ◌<◌, max, min}
 use Rattle.swings.specs.declared.Swing.{Swing}
@@ -34,6 +37,15 @@ larger_neg a b = go (leb b a) (leb→le b a) (nleb→lt b a)
       where
         most : a < b → a ≡ min a b
         most h = omega arith
+
+pub larger_is : (a b : ℤ) → int_max a b ≡ larger a b
+larger_is a b = go (lt_z b a) (le_z a b) refl refl
+  where
+    go : (s t : Bool) → lt_z b a ≡ s → le_z a b ≡ t → cond s a b ≡ cond t b a
+    go true true e f = absurd (omega (arith, linear))
+    go true false e f = refl
+    go false true e f = refl
+    go false false e f = absurd (omega (arith, linear))
 
 pub larger_comm : (a b : ℤ) → larger a b ≡ larger b a
 larger_comm (pos a) (pos b) = larger_pos a b ∙ ap pos (swap a b) ∙ sym (larger_pos b a)

@@ -15,15 +15,13 @@ use lib.Ieee.{Float, binary64, sub, lt}
 use borrow.Author.Tests.{le-leb, lt-leb}
 use Rattle.numbers.proofs.Int.Linear.{linear}
 use Rattle.swings.specs.declared.Swing.{Swing}
-use Rattle.swings.specs.declared.rises.Mark.{Mark}
-use Rattle.swings.specs.declared.rises.Mark.TheVariants.{At, Unset}
-use Rattle.swings.specs.declared.rises.Rise.TheVariants.{Found, Nothing}
+use Rattle.std.specs.Prelude.{Option, Some, None}
 use Rattle.swings.specs.Line.{Lines}
 use Rattle.swings.specs.Rise.{swing_of, rise_between, rise_of}
 use Rattle.swings.specs.Runs.{Run, runs_after}
 use Rattle.swings.specs.Swings.{with_rise, swings_of, line_swings, swings_from, larger}
 use Rattle.swings.specs.Scan.{half_of, thinned}
-use Rattle.walks.specs.Each.{Each}
+use Rattle.std.specs.List.{AllByRecursion as Each}
 use Rattle.swings.proofs.Rise.{rise_small, rise_is}
 
 -- ---- the swings of at least u
@@ -50,26 +48,26 @@ at_least_each u (s ∷ l) = go (le_z (pos u) s.swing) refl (at_least_each u l)
     go false e h = h
 
 module _ (least u : ℕ) (pixel : Float) where
-  between-raised : (t : Bool) (low high : Mark) (v : ℕ) (others : List Swing) → leb u v ≡ t
+  between-raised : (t : Bool) (low high : Option Float) (v : ℕ) (others : List Swing) → leb u v ≡ t
       → at_least u (with_rise pixel (rise_between low high v) others) ≡ cond t
       (with_rise pixel (rise_between low high v) (at_least u others)) (at_least u others)
   unfolding rise_between
-  between-raised true Unset high v others e = refl
-  between-raised false Unset high v others e = refl
-  between-raised true (At p) Unset v others e = refl
-  between-raised false (At p) Unset v others e = refl
-  between-raised true (At p) (At q) v others e = go (lt p q)
+  between-raised true None high v others e = refl
+  between-raised false None high v others e = refl
+  between-raised true (Some p) None v others e = refl
+  between-raised false (Some p) None v others e = refl
+  between-raised true (Some p) (Some q) v others e = go (lt p q)
     where
       go : (b : Bool) → at_least u
-          (with_rise pixel (cond b (Found (record { width = sub binary64 q p; swing = pos v })) Nothing) others)
-          ≡ with_rise pixel (cond b (Found (record { width = sub binary64 q p; swing = pos v })) Nothing)
+          (with_rise pixel (cond b (Some (record { width = sub binary64 q p; swing = pos v })) None) others)
+          ≡ with_rise pixel (cond b (Some (record { width = sub binary64 q p; swing = pos v })) None)
           (at_least u others)
       go true = rw e refl
       go false = refl
-  between-raised false (At p) (At q) v others e = go (lt p q)
+  between-raised false (Some p) (Some q) v others e = go (lt p q)
     where
       go : (b : Bool) → at_least u
-          (with_rise pixel (cond b (Found (record { width = sub binary64 q p; swing = pos v })) Nothing) others)
+          (with_rise pixel (cond b (Some (record { width = sub binary64 q p; swing = pos v })) None) others)
           ≡ at_least u others
       go true = rw e refl
       go false = refl

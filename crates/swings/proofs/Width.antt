@@ -10,15 +10,13 @@ use lib.IntN.{pos, ◌-ℤ◌}
 use lib.Ieee.{Float, binary64, of_bits, of_int, sub, mul, div, lt, eq}
 use lib.Ieee.Exact.{HasValue}
 use Rattle.swings.specs.declared.Swing.{Swing}
-use Rattle.swings.specs.declared.rises.Mark.{Mark}
-use Rattle.swings.specs.declared.rises.Mark.TheVariants.{At, Unset}
-use Rattle.swings.specs.declared.rises.Rise.TheVariants.{Found, Nothing}
+use Rattle.std.specs.Prelude.{Option, Some, None}
 use Rattle.raster.specs.declared.direction.RasterDirection4.{RasterDirection4}
 use Rattle.swings.specs.Line.{Lines, step_pixels}
 use Rattle.swings.specs.Rise.{double, swing_of, level_of, crossed_at, place_at, crossing_of, low_part, high_part}
 use Rattle.swings.specs.Rise.{rise_between, rise_of}
 use Rattle.swings.specs.Swings.{scaled_by, swings_from}
-use Rattle.walks.specs.Each.{Each}
+use Rattle.std.specs.List.{AllByRecursion as Each}
 use Rattle.numbers.proofs.Test.{cond_both}
 use Rattle.numbers.proofs.Int.Size.{nat_abs_sub_pos}
 use Rattle.floats.proofs.Values.{of_int_value}
@@ -76,9 +74,9 @@ place_small N i level v w i≤ N≤ h k l =
         (differ_by_one (of_int binary64 (pos w)) (of_int binary64 (pos v)) w v (byte_value w k) (byte_value v h)
         (le_trans k (lit≤ tt)) (le_trans h (lit≤ tt)) e)
 
-abbrev MarkBounded : ℕ → Mark → Type 0
-MarkBounded B Unset = Unit {0}
-MarkBounded B (At p) = Bounded B p
+abbrev MarkBounded : ℕ → Option Float → Type 0
+MarkBounded B None = Unit {0}
+MarkBounded B (Some p) = Bounded B p
 
 crossing_small : (x : ℕ → ℕ) → ((j : ℕ) → x j ≤ 255) → (rising : Bool) (level : Float) → Bounded 510 level
     → (N : ℕ) → N ≤ 1024 → (i k : ℕ) → i + k ≤ N → MarkBounded (N + 765) (crossing_of x rising level i k)
@@ -86,7 +84,7 @@ unfolding crossing_of
 crossing_small x byte rising level l N N≤ i zero h = tt
 crossing_small x byte rising level l N N≤ i (suc k) h =
     cond_both (MarkBounded (N + 765)) (crossed_at rising level (double x i) (double x (suc i)))
-    (At (place_at i level (double x i) (double x (suc i)))) (crossing_of x rising level (suc i) k)
+    (Some (place_at i level (double x i) (double x (suc i)))) (crossing_of x rising level (suc i) k)
     (place_small N i level (x i) (x (suc i)) (omega arith) N≤ (byte i) (byte (suc i)) l)
     (crossing_small x byte rising level l N N≤ (suc i) k (omega arith))
 
@@ -94,14 +92,14 @@ crossing_small x byte rising level l N N≤ i (suc k) h =
 abbrev BoundedWidth : ℕ → Swing → Type 0
 BoundedWidth B s = Bounded B s.width
 
-between_small : (low high : Mark) (size : ℕ) → MarkBounded 1789 low → MarkBounded 1789 high
+between_small : (low high : Option Float) (size : ℕ) → MarkBounded 1789 low → MarkBounded 1789 high
     → RiseIs (BoundedWidth 3578) (rise_between low high size)
 unfolding rise_between
-between_small Unset high size h k = tt
-between_small (At p0) Unset size h k = tt
-between_small (At p0) (At p1) size h k =
-    cond_both (RiseIs (BoundedWidth 3578)) (lt p0 p1) (Found (record { width = sub binary64 p1 p0; swing = pos size }))
-    Nothing (bounded_sub p1 p0 1789 1789 (lit≤ tt) k h) tt
+between_small None high size h k = tt
+between_small (Some p0) None size h k = tt
+between_small (Some p0) (Some p1) size h k =
+    cond_both (RiseIs (BoundedWidth 3578)) (lt p0 p1) (Some (record { width = sub binary64 p1 p0; swing = pos size }))
+    None (bounded_sub p1 p0 1789 1789 (lit≤ tt) k h) tt
 
 rise_small : (least : ℕ) (x : ℕ → ℕ) → ((j : ℕ) → x j ≤ 255) → (a b : ℕ) → a ≤ 1024 → b ≤ 1024
     → RiseIs (BoundedWidth 3578) (rise_of least x a b)
@@ -112,7 +110,7 @@ rise_small least x byte a b h k =
     → MarkBounded 1789 (crossing_of x (ltb (x a) (x b)) (level_of (x a) (x b) part) a (b - a)) =
     λ part p. crossing_small x byte (ltb (x a) (x b)) (level_of (x a) (x b) part)
     (level_small (x a) (x b) part (byte a) (byte b) p) 1024 (le_refl 1024) a (b - a) reach in
-    cond_both (RiseIs (BoundedWidth 3578)) (ltb (swing_of (x a) (x b)) least) Nothing _ tt
+    cond_both (RiseIs (BoundedWidth 3578)) (ltb (swing_of (x a) (x b)) least) None _ tt
     (between_small (crossing_of x (ltb (x a) (x b)) (level_of (x a) (x b) low_part) a (b - a))
     (crossing_of x (ltb (x a) (x b)) (level_of (x a) (x b) high_part) a (b - a)) (swing_of (x a) (x b))
     (mark low_part low_small) (mark high_part high_small))

@@ -3,5 +3,6 @@ pub mod Line
 pub mod Rise
 pub mod Runs
 pub mod RustRise
+pub mod Samples
 pub mod Scan
 pub mod Swings

@@ -1,7 +1,8 @@
 -- The lines of a picture (document 01, Views and lines). A line is a function from its places to bytes.
-use Rattle.std.specs.Prelude.{ℕ, ◌+◌, ◌*◌, ◌<◌, ◌≡◌, List, get_or, Float}
+use Rattle.std.specs.Prelude.{ℕ, ◌+◌, ◌*◌, ◌<◌, ◌≡◌, List, length, get_or, Float}
 use Rattle.std.specs.Float.{binary64}
 use Rattle.std.specs.Float.Ieee.{of_bits}
+use Rattle.image.specs.Call.{Gray8}
 use Rattle.image.specs.Picture.{pixel}
 use Rattle.image.specs.Refusal.{Laid}
 use Rattle.raster.specs.declared.direction.RasterDirection4.{RasterDirection4}
@@ -41,12 +42,12 @@ abbrev pub sample : List ℕ → ℕ → ℕ → ℕ → ℕ
 sample bytes start step i = get_or bytes (start + i * step) 0
 
 -- the lines that a scan goes over
-abbrev pub lines_on : List ℕ → ScanPlan → Lines
-lines_on bytes c = first_lines c.count bytes c.direction c.width c.height c.stride
+abbrev pub lines_on : Gray8 → ScanPlan → Lines
+lines_on src c = first_lines c.count src.bytes c.direction src.width src.height src.stride
 
 -- it goes over all lines of an accepted picture, or over none
-pub record ValidPlan (c : ScanPlan) (len : ℕ) : Type 0 where
-  pub laid : Laid len c.width c.height c.stride
-  pub step_is : 0 < c.count → c.step ≡ place_step c.direction c.stride
-  pub count_is : 0 < c.count → c.count ≡ line_count c.direction c.width c.height
+pub record ValidPlan (src : Gray8) (c : ScanPlan) : Type 0 where
+  pub laid : Laid (length src.bytes) src.width src.height src.stride
+  pub step_is : 0 < c.count → c.step ≡ place_step c.direction src.stride
+  pub count_is : 0 < c.count → c.count ≡ line_count c.direction src.width src.height
   pub pixel_is : c.pixel ≡ step_pixels c.direction

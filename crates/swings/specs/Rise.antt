@@ -1,12 +1,9 @@
 -- The rise of a monotonic run of a line (document 01, Length; 001's `rise_of`), in lib.Ieee's operations on doubles:
 -- each rounds once.
-use Rattle.std.specs.Prelude.{ℕ, zero, suc, ◌-◌, Bool, cond, ◌&&◌, ltb, pos, ◌-ℤ◌, Float}
+use Rattle.std.specs.Prelude.{ℕ, zero, suc, ◌-◌, Bool, cond, ◌&&◌, ltb, pos, ◌-ℤ◌, Float, Option, Some, None}
 use Rattle.std.specs.Float.{binary64}
 use Rattle.std.specs.Float.Ieee.{of_bits, of_int, add, sub, mul, div, le, lt, eq}
-use Rattle.swings.specs.declared.rises.Mark.{Mark}
-use Rattle.swings.specs.declared.rises.Mark.TheVariants.{At, Unset}
-use Rattle.swings.specs.declared.rises.Rise.{Rise}
-use Rattle.swings.specs.declared.rises.Rise.TheVariants.{Found, Nothing}
+use Rattle.swings.specs.declared.Swing.{Swing}
 
 -- how far apart two samples are
 abbrev pub swing_of : ℕ → ℕ → ℕ
@@ -30,20 +27,20 @@ place_at i level v0 v1 =
 abbrev pub double : (ℕ → ℕ) → ℕ → Float
 double x i = of_int binary64 (pos (x i))
 
--- the place of the level's first crossing among the k steps from sample i on
-unfoldable pub crossing_of : (ℕ → ℕ) → Bool → Float → ℕ → ℕ → Mark
-crossing_of x rising level i zero = Unset
+-- the place of the level's first crossing among the k steps from sample i on, if there is one
+unfoldable pub crossing_of : (ℕ → ℕ) → Bool → Float → ℕ → ℕ → Option Float
+crossing_of x rising level i zero = None
 crossing_of x rising level i (suc k) =
     let later = crossing_of x rising level (suc i) k in
     cond (crossed_at rising level (double x i) (double x (suc i)))
-    (At (place_at i level (double x i) (double x (suc i)))) later
+    (Some (place_at i level (double x i) (double x (suc i)))) later
 
 -- the distance of the two crossings, if the second lies after the first
-unfoldable pub rise_between : Mark → Mark → ℕ → Rise
-rise_between Unset high swing = Nothing
-rise_between (At p0) Unset swing = Nothing
-rise_between (At p0) (At p1) swing =
-    cond (lt p0 p1) (Found (record { width = sub binary64 p1 p0; swing = pos swing })) Nothing
+unfoldable pub rise_between : Option Float → Option Float → ℕ → Option Swing
+rise_between None high swing = None
+rise_between (Some p0) None swing = None
+rise_between (Some p0) (Some p1) swing =
+    cond (lt p0 p1) (Some (record { width = sub binary64 p1 p0; swing = pos swing })) None
 
 -- the doubles 0.2 and 0.8
 abbrev pub low_part : Float
@@ -53,9 +50,9 @@ abbrev pub high_part : Float
 high_part = of_bits binary64 0x3FE999999999999A
 
 -- the rise of the run from sample a to sample b, for a least swing
-unfoldable pub rise_of : ℕ → (ℕ → ℕ) → ℕ → ℕ → Rise
+unfoldable pub rise_of : ℕ → (ℕ → ℕ) → ℕ → ℕ → Option Swing
 rise_of least x a b =
     let rising = ltb (x a) (x b) in
     let low = crossing_of x rising (level_of (x a) (x b) low_part) a (b - a) in
     let high = crossing_of x rising (level_of (x a) (x b) high_part) a (b - a) in
-    cond (ltb (swing_of (x a) (x b)) least) Nothing (rise_between low high (swing_of (x a) (x b)))
+    cond (ltb (swing_of (x a) (x b)) least) None (rise_between low high (swing_of (x a) (x b)))

@@ -1,7 +1,6 @@
 -- The monotonic runs of a line (document 01, Length): a plateau extends the run before it, and the next run starts at
 -- the plateau's last sample.
-use Rattle.std.specs.Prelude.{◌≡◌, ℕ, zero, suc, ◌+◌, ◌-◌, ◌≤◌, ◌<◌, Bool, true, false, cond, List, [], ◌∷◌, ltb}
-use Rattle.swings.specs.declared.run.RunEnd.{RunEnd}
+use Rattle.std.specs.Prelude.{◌≡◌, ℕ, zero, suc, ◌+◌, ◌-◌, ◌≤◌, ◌<◌, Bool, true, false, cond, List, [], ◌∷◌, ltb, Option, Some, None}
 use Rattle.swings.specs.Rise.{swing_of}
 
 -- a run from one sample to a later one
@@ -82,15 +81,15 @@ pub record SlopeEnd (x : ℕ → ℕ) (last i : ℕ) (rising : Bool) (r : ℕ) :
   pub ends : (a : ℕ) → runs_from x a (slope_of rising) r (last - r) ≡ record { first = a; last = r } ∷ runs_up_to x last r
 
 -- it ends at sample b, where the others start, or there is none
-abbrev pub runs_by : (ℕ → ℕ) → ℕ → ℕ → RunEnd → List Run
-runs_by x last a (RunEnd.At b) = record { first = a; last = b } ∷ runs_up_to x last b
-runs_by x last a RunEnd.Level = []
+abbrev pub runs_by : (ℕ → ℕ) → ℕ → ℕ → Option ℕ → List Run
+runs_by x last a (Some b) = record { first = a; last = b } ∷ runs_up_to x last b
+runs_by x last a None = []
 
-abbrev pub EndWithin : ℕ → ℕ → RunEnd → Type 0
-EndWithin a last (RunEnd.At b) = (a < b) × (b ≤ last)
-EndWithin a last RunEnd.Level = Unit {0}
+abbrev pub EndWithin : ℕ → ℕ → Option ℕ → Type 0
+EndWithin a last (Some b) = (a < b) × (b ≤ last)
+EndWithin a last None = Unit {0}
 
-pub record RunTo (x : ℕ → ℕ) (last a : ℕ) (r : RunEnd) : Type 0 where
+pub record RunTo (x : ℕ → ℕ) (last a : ℕ) (r : Option ℕ) : Type 0 where
   pub runs : runs_up_to x last a ≡ runs_by x last a r
   pub within : EndWithin a last r
 

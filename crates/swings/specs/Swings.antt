@@ -1,11 +1,9 @@
 -- The swings of a picture (document 01, Length): those of its lines, in the lines' order; and the strongest of them.
-use Rattle.std.specs.Prelude.{ℕ, zero, suc, cond, List, [], ◌∷◌, ◌++◌, ℤ, pos, Float}
+use Rattle.std.specs.Prelude.{ℕ, zero, suc, cond, List, [], ◌∷◌, ◌++◌, ℤ, pos, Float, Option, Some, None}
 use Rattle.std.specs.Int.Signed.{le_z}
 use Rattle.std.specs.Float.{binary64}
 use Rattle.std.specs.Float.Ieee.{mul}
 use Rattle.swings.specs.declared.Swing.{Swing}
-use Rattle.swings.specs.declared.rises.Rise.{Rise}
-use Rattle.swings.specs.declared.rises.Rise.TheVariants.{Found, Nothing}
 use Rattle.swings.specs.Line.{Lines}
 use Rattle.swings.specs.Rise.{rise_of}
 use Rattle.swings.specs.Runs.{Run, runs_after}
@@ -15,9 +13,9 @@ abbrev pub scaled_by : Float → Swing → Swing
 scaled_by pixel s = record { width = mul binary64 s.width pixel; swing = s.swing }
 
 -- a run's swing, if it has a rise, in front of others
-abbrev pub with_rise : Float → Rise → List Swing → List Swing
-with_rise pixel (Found s) others = scaled_by pixel s ∷ others
-with_rise pixel Nothing others = others
+abbrev pub with_rise : Float → Option Swing → List Swing → List Swing
+with_rise pixel (Some s) others = scaled_by pixel s ∷ others
+with_rise pixel None others = others
 
 -- the swings of some runs of a line
 unfoldable pub swings_of : ℕ → Float → (ℕ → ℕ) → List Run → List Swing

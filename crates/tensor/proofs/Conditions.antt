@@ -13,9 +13,8 @@ use Rattle.image.proofs.Call.{number_decided}
 use Rattle.image.proofs.Chain.{cond_left}
 use Rattle.image.proofs.Conditions.{exactly, match_none, match_unless, match_unless_decided}
 use Rattle.image.proofs.Conditions.{layout_matches, layout_numbered, decided_exactly}
-use Rattle.tensor.specs.declared.direction.TensorSums.{TensorSums}
 use Rattle.tensor.specs.Confidence.{Confident, confidence_refusal, confidence_conditions, confident_decision}
-use Rattle.tensor.specs.Tensor.{picture_sums, estimate_of, direction_decision}
+use Rattle.tensor.specs.Tensor.{TensorSums, picture_sums, estimate_of, direction_decision}
 use Rattle.tensor.proofs.Floor.{passes_iff}
 
 pub direction_exactly : (src : Gray8)

@@ -1,4 +1,4 @@
--- Laws of the floor: the comparison of squares by products (`reach_at_once`, `reach_by_products`), the floor's test by
+-- Laws of the floor: the comparison of squares by products (`reach_by_products`), the floor's test by
 -- them (`at_least_squares`) and its sizes (`scaled_small`), which way it goes (`passes_none`, `passes_over`,
 -- `passes_reach`) and where it passes (`passes_iff`), at 0 (`passes_0`) and below (`passes_below`).
 use mathlib.Core.Bool.{true, false, ◌||◌}
@@ -33,9 +33,6 @@ zero_reaches z m n = rw z (omega (arith, zero-mul m))
 -- ---- x² + y² ≥ z²
 
 module _ (x y z : ℕ) where
-  pub reach_at_once : z ≤ y → leb (z ^ 2) (x ^ 2 + y ^ 2) ≡ true
-  reach_at_once h = le-leb (z ^ 2) (x ^ 2 + y ^ 2) (omega (arith, square_le h))
-
   -- (z − y) × (z + y) = z² − y²
   difference : y < z → (z - y) * (z + y) + y ^ 2 ≡ z ^ 2
   difference h = go (z - y) (omega arith)

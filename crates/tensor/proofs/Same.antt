@@ -10,10 +10,10 @@ use Rattle.image.specs.Picture.{pixel, row_of}
 use Rattle.image.specs.Refusal.{Laid}
 use Rattle.image.specs.Same.{SamePicture}
 use Rattle.image.proofs.Picture.{row_length, row_pixel}
-use Rattle.image.proofs.Refusal.{accepted}
+use Rattle.image.proofs.Accepted.{accepted}
 use Rattle.numbers.proofs.Sum.{total_same}
-use Rattle.tensor.specs.declared.direction.RowSums.{RowSums}
 use Rattle.tensor.specs.Tensor.{
+  RowSums,
   estimate_of,
   smooth,
   gradient_x,

@@ -14,7 +14,7 @@ use Rattle.tensor.specs.Tensor.{gradient_x, gradient_y, row_sum, interior_sum, t
 use Rattle.tensor.specs.Tensor.{estimate_of, direction_decision}
 
 abbrev pub found : RasterDirection4 → ℤ → ℤ → ℤ → Decision DirectionEstimate
-found d A C E = accepts (record { direction = d; a = A; c = C; e = E })
+found d A C E = accepts (record { direction = d; sums = record { a = A; c = C; e = E } })
 
 across : direction_decision (gray8 (0 ∷ 0 ∷ 9 ∷ 0 ∷ 0 ∷ 9 ∷ 0 ∷ 0 ∷ 9 ∷ []) 3 3 3) ≡ found Vertical
     (pos 1296) (pos 0) (pos 0)

@@ -4,9 +4,8 @@ use Rattle.std.specs.Prelude.{Bool, cond, ◌&&◌, List, [], ◌∷◌, ◌⊎�
 use Rattle.image.specs.Call.{Gray8, Decision, unless, decided}
 use Rattle.image.specs.Conditions.{Refusal, given}
 use Rattle.image.specs.Refusal.{layout_refusal}
-use Rattle.tensor.specs.declared.direction.TensorSums.{TensorSums}
 use Rattle.tensor.specs.declared.direction.DirectionEstimate.{DirectionEstimate}
-use Rattle.tensor.specs.Tensor.{no_direction, picture_sums, estimate_of}
+use Rattle.tensor.specs.Tensor.{TensorSums, no_direction, picture_sums, estimate_of}
 
 abbrev pub max_floor : ℕ
 max_floor = 256

@@ -2,17 +2,14 @@
 -- products, and the direction. A picture is p c r, the pixel in column c and row r.
 use Rattle.std.specs.Prelude.{Bool, cond, ◌||◌, List, ◌≡◌, ℕ, zero, suc, ◌+◌, ◌-◌, ◌*◌, ◌≤◌, eqb, leb, ltb, ℤ, pos, nat_abs, ◌+ℤ◌, ◌-ℤ◌, ◌*ℤ◌, length, get_or}
 use Rattle.std.specs.Int.Signed.{le_z, lt_z}
-use Rattle.image.specs.Call.{Gray8, Decision, accepts, refuses, decided}
+use Rattle.image.specs.Call.{Gray8, Decision, decided}
 use Rattle.image.specs.Refusal.{max_side, layout_refusal}
 use Rattle.image.specs.Picture.{pixel}
 use Rattle.numbers.specs.Sum.{total}
 use Rattle.raster.specs.declared.direction.RasterDirection4.{RasterDirection4}
 use Rattle.raster.specs.declared.direction.RasterDirection4.TheVariants.{Horizontal, DownRight, Vertical, DownLeft}
-use Rattle.tensor.specs.declared.direction.RowSums.{RowSums}
-use Rattle.tensor.specs.declared.direction.TensorSums.{TensorSums}
+use Rattle.tensor.specs.declared.direction.Sums.{Sums}
 use Rattle.tensor.specs.declared.direction.DirectionEstimate.{DirectionEstimate}
-use Rattle.tensor.specs.declared.direction.DirectionAnswer.{DirectionAnswer}
-use Rattle.tensor.specs.declared.direction.DirectionAnswer.TheVariants.{Direction, Refused}
 
 -- ---- the gradients at the interior pixel (x + 1, y + 1): the column to the right minus that to the left, the row
 -- below minus that above
@@ -41,6 +38,13 @@ row_sum u v w y = total (λ x. u x y *ℤ v x y) 0 (w - 2)
 unfoldable pub interior_sum : (ℕ → ℕ → ℤ) → (ℕ → ℕ → ℤ) → ℕ → ℕ → ℤ
 interior_sum u v w h = total (row_sum u v w) 0 (h - 2)
 
+-- the code's types of sums, of a row and of a picture
+abbrev pub RowSums : Type 0
+RowSums = Sums ℤ
+
+abbrev pub TensorSums : Type 0
+TensorSums = Sums ℤ
+
 -- A = sum of gx², C = sum of gx × gy, E = sum of gy²
 unfoldable pub tensor_sums : (ℕ → ℕ → ℕ) → ℕ → ℕ → TensorSums
 tensor_sums p w h =
@@ -67,13 +71,7 @@ tensor_direction w h A C E =
 
 -- A, C and E are returned too
 unfoldable pub estimate_of : ℕ → ℕ → TensorSums → DirectionEstimate
-estimate_of w h s =
-    record {
-      direction = tensor_direction w h s.a s.c s.e;
-      a = s.a;
-      c = s.c;
-      e = s.e;
-    }
+estimate_of w h s = record { direction = tensor_direction w h s.a s.c s.e; sums = s }
 
 abbrev pub picture_sums : Gray8 → TensorSums
 picture_sums src = tensor_sums (pixel src.bytes src.stride) src.width src.height
@@ -83,10 +81,6 @@ unfoldable pub direction_decision : Gray8 → Decision DirectionEstimate
 direction_decision src =
     decided (layout_refusal (length src.bytes) src.width src.height src.stride)
     (estimate_of src.width src.height (picture_sums src))
-
-abbrev pub direction_answer : Decision DirectionEstimate → DirectionAnswer
-direction_answer (accepts estimate) = Direction estimate
-direction_answer (refuses number) = Refused number
 
 -- ---- what the parts of the computation state
 

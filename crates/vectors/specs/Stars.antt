@@ -1,22 +1,19 @@
 -- Document 01's cases that are marked ★, all of them in the document's order, and then the examples of document 02's
 -- requests, are one list, and one theorem says that each has the value beside it. What a case has is told by the
 -- definitions that the calls' contracts cite, and the two are compared by `≡` alone: no test of our own stands between.
-use Rattle.std.specs.Prelude.{ℕ, zero, suc, ◌*◌, List, [], ◌∷◌, ◌++◌, map, ◌≡◌, refl, ℤ, pos, negsuc, length, get_or, take, replicate}
+use Rattle.std.specs.Prelude.{ℕ, zero, suc, ◌*◌, List, [], ◌∷◌, ◌++◌, map, ◌≡◌, refl, ℤ, pos, negsuc, length, get_or, take, replicate, Float, Option, Some, None, Result, Ok, Err}
 use Rattle.std.specs.Float.{binary64}
 use Rattle.std.specs.Float.Ieee.{of_bits, of_int, add, sub, mul, div, rem, le, lt, eq}
 use Rattle.numbers.specs.Scalar.{clamp_byte}
 use Rattle.numbers.specs.Sum.{total, count}
 use Rattle.floats.specs.Factor.{quantized}
-use Rattle.floats.specs.declared.Quantized.{Quantized}
-use Rattle.floats.specs.declared.Quantized.TheVariants.{Q16}
 use Rattle.image.specs.Call.{gray8, Decision, accepts, refuses}
 use Rattle.image.specs.Picture.{pixel, tabulate, pixels_of}
 use Rattle.image.specs.Refusal.{sides_refusal, layout_refusal, sized_refusal, pair_refusal}
 use Rattle.pgm.specs.Form.{on_from}
-use Rattle.pgm.specs.Read.{read_decision, read_answer}
+use Rattle.pgm.specs.Read.{read_decision}
+use Rattle.pgm.specs.declared.PgmPicture.{PgmPicture}
 use Rattle.pgm.specs.Write.{digits, digit_count, write_decision}
-use Rattle.pgm.specs.declared.PgmAnswer.{PgmAnswer}
-use Rattle.pgm.specs.declared.PgmAnswer.TheVariants as pgm
 use Rattle.raster.specs.Border.{border_map}
 use Rattle.raster.specs.Direction.{from_angle}
 use Rattle.raster.specs.Lines.{start_col, start_row, line_of}
@@ -26,18 +23,13 @@ use Rattle.raster.specs.declared.border.BorderSample.{BorderSample}
 use Rattle.raster.specs.declared.border.BorderSample.TheVariants.{Inside}
 use Rattle.raster.specs.declared.direction.RasterDirection4.{RasterDirection4}
 use Rattle.raster.specs.declared.direction.RasterDirection4.TheVariants.{Horizontal, DownRight, Vertical, DownLeft}
-use Rattle.raster.specs.declared.direction.SnappedDirection.{SnappedDirection}
-use Rattle.raster.specs.declared.direction.SnappedDirection.TheVariants as snapped
 use Rattle.line.specs.Iteration as iteration
 use Rattle.line.specs.Line.{sample, window, mean}
-use Rattle.blur.specs.Length.{length_decision, snapped_decision, length_answer}
+use Rattle.blur.specs.Length.{thresholds, length_decision, snapped_decision}
 use Rattle.swings.specs.Rise.{level_of, crossed_at, place_at, crossing_of, rise_between}
 use Rattle.swings.specs.Swings.{swings_from}
 use Rattle.tensor.specs.Confidence.{passes}
 use Rattle.tensor.specs.Tensor.{gradient_x, gradient_y, row_sum, interior_sum, tensor_sums, tensor_direction, estimate_of}
-use Rattle.blur.specs.declared.length.LengthAnswer.{LengthAnswer}
-use Rattle.blur.specs.declared.length.LengthAnswer.TheVariants as lengths
-use Rattle.blur.specs.declared.length.LineLength.TheVariants.{Found, Nothing}
 use Rattle.deblur.specs.Calls as calls
 use Rattle.deblur.specs.Picture.{estimate, estimate_on}
 use Rattle.deblur.specs.Refusal as deblur
@@ -47,16 +39,15 @@ use Rattle.sharpen.specs.Call.{binomial_refusal}
 use Rattle.resize.specs.Call as resize
 use Rattle.resize.specs.Halving.{mean_of_four, halved_times, side_after, starts_below2}
 use Rattle.job.specs.Floor.{config_floor}
-use Rattle.job.specs.Job.{layout, job_of, job_default, job_refusal, start_refusal, picture_direction, plan, job_answer}
-use Rattle.job.specs.declared.JobAnswer.{JobAnswer}
-use Rattle.job.specs.declared.JobAnswer.TheVariants.{Refused}
+use Rattle.job.specs.Job.{layout, job_of, job_default, job_refusal, start_refusal, picture_direction, plan}
+use Rattle.job.specs.declared.JobResult.{JobResult}
 use Rattle.record.specs.Bytes.{little_endian}
 use Rattle.record.specs.Fields.{decoded, legal}
 use Rattle.record.specs.Record.{read_record, record_of}
-use Rattle.summary.specs.File.{summarized}
+use Rattle.summary.specs.File.{fault_number, summarized}
 use Rattle.summary.specs.declared.DirectionSummary.{DirectionSummary}
-use Rattle.summary.specs.declared.SummaryAnswer.{SummaryAnswer}
-use Rattle.summary.specs.declared.SummaryAnswer.TheVariants as summary
+use Rattle.summary.specs.declared.FaultyRecord.{FaultyRecord}
+use Rattle.summary.specs.declared.RecordSummary.{RecordSummary}
 
 -- ---- the document's pictures, without padding
 
@@ -181,17 +172,19 @@ data Question : Type 0 where
   halvings_lent : ℕ → ℕ → ℕ → ℕ → ℕ → ℕ → Question
 
 data Answer : Type 0 where
-  direction : SnappedDirection → Answer
-  measured : LengthAnswer → Answer
+  direction : Option RasterDirection4 → Answer
+  measured : Decision (Option Float) → Answer
   source : BorderSample → Answer
   level : ℤ → Answer
-  factor : Quantized → Answer
+  factor : Option ℕ → Answer
   pixels : List ℕ → Answer
   levels : List ℤ → Answer
   refused : ℕ → Answer
-  planned : JobAnswer → Answer
-  sheet : SummaryAnswer → Answer
-  read : PgmAnswer → Answer
+  planned : Decision JobResult → Answer
+  sheet : RecordSummary → Answer
+  -- the number of a fault and its index
+  fault : ℕ → ℕ → Answer
+  read : Decision PgmPicture → Answer
   -- of refusals, where 0 is none
   numbers : List ℕ → Answer
 
@@ -250,11 +243,16 @@ bytes : Decision (List ℕ) → Answer
 bytes (accepts xs) = pixels xs
 bytes (refuses number) = refused number
 
+-- a file's sheet, or its fault
+sheet_or_fault : Result RecordSummary FaultyRecord → Answer
+sheet_or_fault (Ok s) = sheet s
+sheet_or_fault (Err f) = fault fault_number f.index
+
 value : Question → Answer
-unfolding three_ramps row unless written filtered estimated along_angle along_row bytes
+unfolding sheet_or_fault three_ramps row unless written filtered estimated along_angle along_row bytes
 value (direction_of angle) = direction (from_angle (of_bits binary64 angle))
 value (length_of_ramps minimum) =
-    measured (length_answer (length_decision (gray8 three_ramps 10 3 10) Horizontal minimum 24 30))
+    measured (length_decision (gray8 three_ramps 10 3 10) Horizontal (thresholds minimum 24) 30)
 value (sample_at_lem border n p) = source (border_map border n p)
 value (mean_of line L p) = level (mean (border_map Replicate (length line)) (λ i. get_or line i (pos 0)) L p)
 value (q_of relaxation) = factor (quantized 1 (of_bits binary64 relaxation))
@@ -270,7 +268,7 @@ value (row_sharpened gain) =
     }))
 value (job_on_ramps minimum) =
     planned
-    (job_answer (plan
+    (plan
     (job_of (gray8 three_ramps 10 3 10) (layout 30 10 3 10)
     (record {
       minimum_transitions = minimum;
@@ -280,11 +278,11 @@ value (job_on_ramps minimum) =
       relaxation = of_bits binary64 0x3ff0_0000_0000_0000;
       border = Replicate;
     })
-    30 30)))
+    30 30))
 value row_binomial = written (binomial_refusal 5 5 1 5 5 5 1 5 5) (unsharp (pixel row 5) 5 1)
-value (sheet_of file) = sheet (summarized file)
+value (sheet_of file) = sheet_or_fault (summarized file)
 value (drum_estimated L iterations) = estimated (along_row L iterations Wrap)
-value (pgm_of file) = read (read_answer (read_decision file))
+value (pgm_of file) = read (read_decision file)
 value (row_as_pgm room) = bytes (write_decision (gray8 row 5 1 5) room)
 value (lines_lent w h scratch room) =
     let settings = (along_row 3 1 Replicate).refusal w h in
@@ -295,9 +293,9 @@ value (job_lent w h scratch records) =
     numbers (job_refusal (job_of black (layout (w * h) w h w) job_default scratch records) ∷ [])
 value (job_floor xs w h scratch c) =
     let config = config_floor c job_default in
-    planned (job_answer (plan (job_of (gray8 xs w h w) (layout (w * h) w h w) config scratch (w * h))))
+    planned (plan (job_of (gray8 xs w h w) (layout (w * h) w h w) config scratch (w * h)))
 value (length_of_four angle xs records) =
-    measured (length_answer (snapped_decision (gray8 xs 2 2 2) (from_angle (of_bits binary64 angle)) 8 24 records))
+    measured (snapped_decision (gray8 xs 2 2 2) (from_angle (of_bits binary64 angle)) (thresholds 8 24) records)
 value (row_along angle iterations) = filtered (along_angle angle 3 iterations Replicate)
 value (square_halved xs n count) =
     let m = side_after count n in
@@ -322,45 +320,45 @@ unfolding ◌gives◌ restored_over sharpened_over_3 binomial vertical_over_11 n
     corner equal rounding odd
 cases =
     -- "0.39 gives Horizontal★, 0.40 DownRight★, .. NaN ..★", which has none by document 02, K7
-    direction_of 0x3fd8_f5c2_8f5c_28f6 gives direction (snapped.Found Horizontal)
-    ∷ direction_of 0x3fd9_9999_9999_999a gives direction (snapped.Found DownRight)
-    ∷ direction_of 0x7ff8_0000_0000_0000 gives direction snapped.Nothing
+    direction_of 0x3fd8_f5c2_8f5c_28f6 gives direction (Some Horizontal)
+    ∷ direction_of 0x3fd9_9999_9999_999a gives direction (Some DownRight)
+    ∷ direction_of 0x7ff8_0000_0000_0000 gives direction None
     -- "5.0 with minimum 3★, Nothing with 4★"
-    ∷ length_of_ramps 3 gives measured (lengths.Length (Found (of_bits binary64 0x4014_0000_0000_0000)))
-    ∷ length_of_ramps 4 gives measured (lengths.Length Nothing)
+    ∷ length_of_ramps 3 gives measured (accepts (Some (of_bits binary64 0x4014_0000_0000_0000)))
+    ∷ length_of_ramps 4 gives measured (accepts None)
     -- "n = 4, Reflect: −2 gives 2★, 7 gives 1★. Samples −1, 0, 0, L = 3, middle: −1★."
     ∷ sample_at_lem Reflect 4 (negsuc 1) gives source (Inside 2)
     ∷ sample_at_lem Reflect 4 (pos 7) gives source (Inside 1)
     ∷ mean_of (negsuc 0 ∷ pos 0 ∷ pos 0 ∷ []) 3 1 gives level (negsuc 0)
     -- "0.1 gives 6,554★, 2^−17 gives 1★"
-    ∷ q_of 0x3fb9_9999_9999_999a gives factor (Q16 6554)
-    ∷ q_of 0x3ee0_0000_0000_0000 gives factor (Q16 1)
+    ∷ q_of 0x3fb9_9999_9999_999a gives factor (Some 6554)
+    ∷ q_of 0x3ee0_0000_0000_0000 gives factor (Some 1)
     -- "one iteration 10 0 60 0 10★; two 14 0 80 0 14★ .. Line unsharp, gain 1.5: 10 0 70 0 10★"
     ∷ row_restored 1 gives pixels (10 ∷ 0 ∷ 60 ∷ 0 ∷ 10 ∷ [])
     ∷ row_restored 2 gives pixels (14 ∷ 0 ∷ 80 ∷ 0 ∷ 14 ∷ [])
     ∷ row_sharpened 0x3ff8_0000_0000_0000 gives pixels (10 ∷ 0 ∷ 70 ∷ 0 ∷ 10 ∷ [])
     -- "On the ramp above the direction is Vertical, so refusal 11★."
-    ∷ job_on_ramps 3 gives planned (Refused 11)
+    ∷ job_on_ramps 3 gives planned (refuses 11)
     -- "The row above gives 8 2 59 2 8★."
     ∷ row_binomial gives pixels (8 ∷ 2 ∷ 59 ∷ 2 ∷ 8 ∷ [])
     -- K1: "Horizontal (3, 11, 5, 3, 2), Vertical (1, 11, 11, 11, 0), 1 binomial"; 31 bytes; an empty file
     ∷ sheet_of (restored_over 3 ++ restored_over 5 ++ sharpened_over_3 ++ binomial ++ vertical_over_11)
-    gives sheet (summary.Summary (record {
+    gives sheet (record {
       horizontal = record { count = 3; total = 11; largest = 5; mean = 3; remainder = 2 };
       down_right = none;
       vertical = record { count = 1; total = 11; largest = 11; mean = 11; remainder = 0 };
       down_left = none;
       binomials = 1;
-    }))
-    ∷ sheet_of (take 31 binomial) gives sheet (summary.Refused 13 0)
+    })
+    ∷ sheet_of (take 31 binomial) gives fault 13 0
     ∷ sheet_of []
-    gives sheet (summary.Summary (record {
+    gives sheet (record {
       horizontal = none;
       down_right = none;
       vertical = none;
       down_left = none;
       binomials = 0;
-    }))
+    })
     -- K2: of 4 places −1 gives 3, 4 gives 0, −5 gives 3, 9 gives 1
     ∷ sample_at_lem Wrap 4 (negsuc 0) gives source (Inside 3)
     ∷ sample_at_lem Wrap 4 (pos 4) gives source (Inside 0)
@@ -373,25 +371,25 @@ cases =
     -- K3: a comment alone separates; `255#` gives 14; in `255 #c` LF the `#` is a pixel; `255` CR LF and a byte gives
     -- 16; a comment without an end gives 14
     ∷ pgm_of (80 ∷ 53 ∷ 35 ∷ 97 ∷ 13 ∷ 53 ∷ 35 ∷ 98 ∷ 10 ∷ 49 ∷ 32 ∷ 9 ∷ d255 ++ (32 ∷ row))
-    gives read (pgm.Picture (record { width = 5; height = 1; start = 16 }))
-    ∷ pgm_of (p5 d1 d1 d255 ++ (35 ∷ 10 ∷ 7 ∷ [])) gives read (pgm.Refused 14)
+    gives read (accepts (record { width = 5; height = 1; start = 16 }))
+    ∷ pgm_of (p5 d1 d1 d255 ++ (35 ∷ 10 ∷ 7 ∷ [])) gives read (refuses 14)
     ∷ pgm_of (p5 (51 ∷ []) d1 d255 ++ (32 ∷ 35 ∷ 99 ∷ 10 ∷ []))
-    gives read (pgm.Picture (record { width = 3; height = 1; start = 11 }))
-    ∷ pgm_of (p5 d1 d1 d255 ++ (13 ∷ 10 ∷ 7 ∷ [])) gives read (pgm.Refused 16)
-    ∷ pgm_of (p5 d1 d1 (35 ∷ d255)) gives read (pgm.Refused 14)
+    gives read (accepts (record { width = 3; height = 1; start = 11 }))
+    ∷ pgm_of (p5 d1 d1 d255 ++ (13 ∷ 10 ∷ 7 ∷ [])) gives read (refuses 16)
+    ∷ pgm_of (p5 d1 d1 (35 ∷ d255)) gives read (refuses 14)
     -- the order: `P5 0 1 255` at the end of the file gives 14; `P5 0 1025 7` LF gives 1; `P5 1025 1 7` LF gives 2
-    ∷ pgm_of (p5 (48 ∷ []) d1 d255) gives read (pgm.Refused 14)
-    ∷ pgm_of (p5 (48 ∷ []) d1025 (55 ∷ 10 ∷ [])) gives read (pgm.Refused 1)
-    ∷ pgm_of (p5 d1025 d1 (55 ∷ 10 ∷ [])) gives read (pgm.Refused 2)
+    ∷ pgm_of (p5 (48 ∷ []) d1 d255) gives read (refuses 14)
+    ∷ pgm_of (p5 (48 ∷ []) d1025 (55 ∷ 10 ∷ [])) gives read (refuses 1)
+    ∷ pgm_of (p5 d1025 d1 (55 ∷ 10 ∷ [])) gives read (refuses 2)
     -- a maximum of 0, 256 or 65,535
-    ∷ pgm_of (p5 d1 d1 (48 ∷ 10 ∷ 7 ∷ [])) gives read (pgm.Refused 15)
-    ∷ pgm_of (p5 d1 d1 (50 ∷ 53 ∷ 54 ∷ 10 ∷ 7 ∷ [])) gives read (pgm.Refused 15)
-    ∷ pgm_of (p5 d1 d1 (54 ∷ 53 ∷ 53 ∷ 51 ∷ 53 ∷ 10 ∷ 7 ∷ [])) gives read (pgm.Refused 15)
+    ∷ pgm_of (p5 d1 d1 (48 ∷ 10 ∷ 7 ∷ [])) gives read (refuses 15)
+    ∷ pgm_of (p5 d1 d1 (50 ∷ 53 ∷ 54 ∷ 10 ∷ 7 ∷ [])) gives read (refuses 15)
+    ∷ pgm_of (p5 d1 d1 (54 ∷ 53 ∷ 53 ∷ 51 ∷ 53 ∷ 10 ∷ 7 ∷ [])) gives read (refuses 15)
     -- `0005` and `0255`; 18446744073709551621 as a width; 18446744073709551871 as a maximum
     ∷ pgm_of (p5 (48 ∷ 48 ∷ 48 ∷ 53 ∷ []) d1 (48 ∷ d255) ++ (10 ∷ row))
-    gives read (pgm.Picture (record { width = 5; height = 1; start = 15 }))
-    ∷ pgm_of (p5 (beyond ++ (54 ∷ 50 ∷ 49 ∷ [])) d1 d255 ++ (10 ∷ row)) gives read (pgm.Refused 2)
-    ∷ pgm_of (p5 d1 d1 (beyond ++ (56 ∷ 55 ∷ 49 ∷ [])) ++ (10 ∷ 7 ∷ [])) gives read (pgm.Refused 15)
+    gives read (accepts (record { width = 5; height = 1; start = 15 }))
+    ∷ pgm_of (p5 (beyond ++ (54 ∷ 50 ∷ 49 ∷ [])) d1 d255 ++ (10 ∷ row)) gives read (refuses 2)
+    ∷ pgm_of (p5 d1 d1 (beyond ++ (56 ∷ 55 ∷ 49 ∷ [])) ++ (10 ∷ 7 ∷ [])) gives read (refuses 15)
     -- "10 10 40 10 10 written is 50 35 0A 35 0A 31 0A 32 35 35 0A 0A 0A 28 0A 0A"; room for 15 gives 5
     ∷ row_as_pgm 16
     gives pixels (0x50 ∷ 0x35 ∷ 0xa ∷ 0x35 ∷ 0xa ∷ 0x31 ∷ 0xa ∷ 0x32 ∷ 0x35 ∷ 0x35 ∷ 0xa
@@ -414,42 +412,42 @@ cases =
     ∷ job_lent 3 5 15 15 gives numbers (0 ∷ [])
     -- K6: A, C, E = 1300, −100, 500 pass 160, and then there are too few swings; 161 gives 17. 16, 0, 8 pass 128 on
     -- equality, and not 129. The ramp passes 256; a number above that is no floor.
-    ∷ job_floor corner 4 3 12 160 gives planned (Refused 11)
-    ∷ job_floor corner 4 3 12 161 gives planned (Refused 17)
-    ∷ job_floor equal 4 4 12 128 gives planned (Refused 11)
-    ∷ job_floor equal 4 4 12 129 gives planned (Refused 17)
-    ∷ job_floor three_ramps 10 3 30 256 gives planned (Refused 11)
-    ∷ job_floor three_ramps 10 3 30 257 gives planned (Refused 17)
+    ∷ job_floor corner 4 3 12 160 gives planned (refuses 11)
+    ∷ job_floor corner 4 3 12 161 gives planned (refuses 17)
+    ∷ job_floor equal 4 4 12 128 gives planned (refuses 11)
+    ∷ job_floor equal 4 4 12 129 gives planned (refuses 17)
+    ∷ job_floor three_ramps 10 3 30 256 gives planned (refuses 11)
+    ∷ job_floor three_ramps 10 3 30 257 gives planned (refuses 17)
     -- A + E = 0, and a side below 3, pass 0 alone; short scratch comes first
-    ∷ job_floor (replicate 9 7) 3 3 9 0 gives planned (Refused 11)
-    ∷ job_floor (replicate 9 7) 3 3 9 1 gives planned (Refused 17)
-    ∷ job_floor row 5 1 15 0 gives planned (Refused 11)
-    ∷ job_floor row 5 1 15 1 gives planned (Refused 17)
-    ∷ job_floor corner 4 3 11 300 gives planned (Refused 10)
-    ∷ job_floor corner 4 3 12 300 gives planned (Refused 17)
+    ∷ job_floor (replicate 9 7) 3 3 9 0 gives planned (refuses 11)
+    ∷ job_floor (replicate 9 7) 3 3 9 1 gives planned (refuses 17)
+    ∷ job_floor row 5 1 15 0 gives planned (refuses 11)
+    ∷ job_floor row 5 1 15 1 gives planned (refuses 17)
+    ∷ job_floor corner 4 3 11 300 gives planned (refuses 10)
+    ∷ job_floor corner 4 3 12 300 gives planned (refuses 17)
     -- K7: the last angle with a direction, and negated; 1e306; then the next double, and negated; 1e307; the largest;
     -- the infinities
-    ∷ direction_of 0x7f91_df46_a252_9d38 gives direction (snapped.Found DownRight)
-    ∷ direction_of 0xff91_df46_a252_9d38 gives direction (snapped.Found DownLeft)
-    ∷ direction_of 0x7f76_c8e5_ca23_9029 gives direction (snapped.Found Vertical)
-    ∷ direction_of 0x7f91_df46_a252_9d39 gives direction snapped.Nothing
-    ∷ direction_of 0xff91_df46_a252_9d39 gives direction snapped.Nothing
-    ∷ direction_of 0x7fac_7b1f_3cac_7433 gives direction snapped.Nothing
-    ∷ direction_of 0x7fef_ffff_ffff_ffff gives direction snapped.Nothing
-    ∷ direction_of 0x7ff0_0000_0000_0000 gives direction snapped.Nothing
-    ∷ direction_of 0xfff0_0000_0000_0000 gives direction snapped.Nothing
+    ∷ direction_of 0x7f91_df46_a252_9d38 gives direction (Some DownRight)
+    ∷ direction_of 0xff91_df46_a252_9d38 gives direction (Some DownLeft)
+    ∷ direction_of 0x7f76_c8e5_ca23_9029 gives direction (Some Vertical)
+    ∷ direction_of 0x7f91_df46_a252_9d39 gives direction None
+    ∷ direction_of 0xff91_df46_a252_9d39 gives direction None
+    ∷ direction_of 0x7fac_7b1f_3cac_7433 gives direction None
+    ∷ direction_of 0x7fef_ffff_ffff_ffff gives direction None
+    ∷ direction_of 0x7ff0_0000_0000_0000 gives direction None
+    ∷ direction_of 0xfff0_0000_0000_0000 gives direction None
     -- "NaN on 2 by 2 gives 7", between 4 and 10
-    ∷ length_of_four 0x7ff8_0000_0000_0000 (replicate 4 0) 4 gives measured (lengths.Refused 7)
-    ∷ length_of_four 0x7ff8_0000_0000_0000 (replicate 3 0) 0 gives measured (lengths.Refused 4)
-    ∷ length_of_four 0x7ff8_0000_0000_0000 (replicate 4 0) 3 gives measured (lengths.Refused 7)
-    ∷ length_of_four 0 (replicate 4 0) 3 gives measured (lengths.Refused 10)
-    ∷ length_of_four 0 (replicate 4 0) 4 gives measured (lengths.Length Nothing)
+    ∷ length_of_four 0x7ff8_0000_0000_0000 (replicate 4 0) 4 gives measured (refuses 7)
+    ∷ length_of_four 0x7ff8_0000_0000_0000 (replicate 3 0) 0 gives measured (refuses 4)
+    ∷ length_of_four 0x7ff8_0000_0000_0000 (replicate 4 0) 3 gives measured (refuses 7)
+    ∷ length_of_four 0 (replicate 4 0) 3 gives measured (refuses 10)
+    ∷ length_of_four 0 (replicate 4 0) 4 gives measured (accepts None)
     -- line filters: along DownRight each pixel of the row is a line of its own; 7 stands before 8; a record gives 13
     ∷ row_along 0x7f91_df46_a252_9d38 1 gives pixels row
     ∷ row_along 0x7f91_df46_a252_9d39 1 gives refused 7
     ∷ row_along 0x7f91_df46_a252_9d39 0 gives refused 7
     ∷ sheet_of (take 16 (restored_over 3) ++ (0x39 ∷ 0x9d ∷ 0x52 ∷ 0xa2 ∷ 0x46 ∷ 0xdf ∷ 0x91 ∷ 0x7f ∷ replicate 8 0))
-    gives sheet (summary.Refused 13 0)
+    gives fault 13 0
     -- K8: each halving rounds, where one mean over sixteen would give 1; an odd last row and column are dropped
     ∷ square_halved rounding 4 0 gives pixels rounding
     ∷ square_halved rounding 4 2 gives pixels (2 ∷ [])

@@ -1,87 +1,94 @@
 // The calls of the cases.
-use crate::case::Case;
+use crate::case::{Call, Case, NoCall};
 use crate::lengths::length_at;
-use blur::length::{LengthAnswer, LineLength, LineLengthConfig};
+use blur::length::LineLengthConfig;
 use deblur::{
-    DirectionalUnsharpConfig, RestorationAnswer, VanCittertConfig, directional_unsharp_line_into,
+    DirectionalUnsharpConfig, VanCittertConfig, directional_unsharp_line_into,
     van_cittert_line_into,
 };
+use image::{Gray8View, Gray8ViewMut, Refusal};
 use raster::border::LineBorderMode;
-use raster::direction::{RasterDirection4, SnappedDirection};
+use raster::direction::RasterDirection4;
 use resize::{box_downscale_half, halve};
 use sharpen::fixed_binomial_unsharp_into;
-use swings::Swing;
-use tensor::direction::DirectionAnswer;
-use tensor::estimate_line_direction;
+use tensor::direction::estimate_line_direction;
 
-// What a call answered, as a case has it.
-#[derive(Clone, Copy)]
-pub struct Outcome {
-    pub number: u8,
-    pub found: u8,
-    pub estimate: f64,
+// What a call found, beside the pixels.
+#[derive(Clone, Copy, Debug, PartialEq)]
+pub enum Found {
+    Pixels,
+    Direction(RasterDirection4),
+    Length(Option<f64>),
 }
 
-fn refused(number: u8) -> Outcome {
-    Outcome {
-        number,
-        found: 0,
-        estimate: 0.0,
+// Why a case has no answer.
+#[derive(Clone, Copy, Debug, PartialEq, Eq)]
+pub enum Fault {
+    NoCall,
+    Refused(Refusal),
+}
+
+impl Found {
+    // The direction's number; for a length 1 where there is one.
+    fn number(self) -> u8 {
+        match self {
+            Found::Direction(direction) => direction.index(),
+            Found::Length(Some(_)) => 1,
+            Found::Pixels | Found::Length(None) => 0,
+        }
+    }
+
+    fn estimate(self) -> f64 {
+        match self {
+            Found::Length(Some(estimate)) => estimate,
+            _ => 0.0,
+        }
     }
 }
 
-fn directed(direction: RasterDirection4) -> Outcome {
-    Outcome {
-        number: 0,
-        found: direction.index(),
-        estimate: 0.0,
+impl Fault {
+    // The number as a case has it; that of a call that does not exist is in no case.
+    fn number(self) -> u8 {
+        match self {
+            Fault::NoCall => 255,
+            Fault::Refused(Refusal::InvalidStrength) => Refusal::InvalidLine.number(),
+            Fault::Refused(refusal) => refusal.number(),
+        }
+    }
+}
+
+impl From<NoCall> for Fault {
+    fn from(_: NoCall) -> Fault {
+        Fault::NoCall
+    }
+}
+
+impl From<Refusal> for Fault {
+    fn from(refusal: Refusal) -> Fault {
+        Fault::Refused(refusal)
     }
 }
 
 // No case of the list has an angle without a direction.
-fn snapped(answer: SnappedDirection) -> Outcome {
-    match answer {
-        SnappedDirection::Found(direction) => directed(direction),
-        SnappedDirection::Nothing => refused(7),
-    }
+fn snap(c: Case) -> Result<Found, Refusal> {
+    let direction = RasterDirection4::from_angle(c.angle).ok_or(Refusal::InvalidLine)?;
+    Ok(Found::Direction(direction))
 }
 
-fn direction_outcome(answer: DirectionAnswer) -> Outcome {
-    match answer {
-        DirectionAnswer::Direction(d) => {
-            let direction = d.direction;
-            directed(direction)
-        }
-        DirectionAnswer::Refused(number) => refused(number),
-    }
+fn direct<'a>(src: Gray8View<'a>) -> Result<Found, Refusal> {
+    Ok(Found::Direction(estimate_line_direction(src)?.direction))
 }
 
-fn length_outcome(answer: LengthAnswer) -> Outcome {
-    match answer {
-        LengthAnswer::Length(measured) => match measured {
-            LineLength::Found(estimate) => Outcome {
-                number: 0,
-                found: 1,
-                estimate,
-            },
-            LineLength::Nothing => refused(0),
-        },
-        LengthAnswer::Refused(number) => refused(number),
-    }
-}
-
-fn restoration_outcome(answer: RestorationAnswer) -> Outcome {
-    match answer {
-        RestorationAnswer::Done(metadata) => {
-            let direction = metadata.raster_direction;
-            directed(direction)
-        }
-        RestorationAnswer::Refused(number) => refused(number),
-    }
+fn measure<'a>(c: Case, src: Gray8View<'a>) -> Result<Found, Refusal> {
+    let config = LineLengthConfig {
+        minimum_transitions: c.count,
+        minimum_amplitude: c.amplitude,
+    };
+    Ok(Found::Length(length_at(src, c.angle, config)?))
 }
 
 // The longest line of the list has 16 pixels.
-fn restore(c: Case, source: &[u8], destination: &mut [u8]) -> Outcome {
+fn restore<'a, 'b>(c: Case, src: Gray8View<'a>, dst: Gray8ViewMut<'b>) -> Result<Found, Refusal> {
     let mut scratch = [0i32; 48];
     let config = VanCittertConfig {
         theta_radians: c.angle,
@@ -90,21 +97,12 @@ fn restore(c: Case, source: &[u8], destination: &mut [u8]) -> Outcome {
         relaxation: c.factor,
         border: LineBorderMode::from_code(c.border, c.value),
     };
-    restoration_outcome(van_cittert_line_into(
-        source,
-        c.source.width,
-        c.source.height,
-        c.source.stride,
-        destination,
-        c.destination.width,
-        c.destination.height,
-        c.destination.stride,
-        config,
-        &mut scratch,
-    ))
+    let done = van_cittert_line_into(src, dst, config, &mut scratch)?;
+    Ok(Found::Direction(done.raster_direction))
 }
 
-fn unsharp(c: Case, source: &[u8], destination: &mut [u8]) -> Outcome {
+// Of other settings than `restore`: a trait over both would be as long.
+fn unsharp<'a, 'b>(c: Case, src: Gray8View<'a>, dst: Gray8ViewMut<'b>) -> Result<Found, Refusal> {
     let mut scratch = [0i32; 48];
     let config = DirectionalUnsharpConfig {
         theta_radians: c.angle,
@@ -112,118 +110,51 @@ fn unsharp(c: Case, source: &[u8], destination: &mut [u8]) -> Outcome {
         gain: c.factor,
         border: LineBorderMode::from_code(c.border, c.value),
     };
-    restoration_outcome(directional_unsharp_line_into(
-        source,
-        c.source.width,
-        c.source.height,
-        c.source.stride,
-        destination,
-        c.destination.width,
-        c.destination.height,
-        c.destination.stride,
-        config,
-        &mut scratch,
-    ))
+    let done = directional_unsharp_line_into(src, dst, config, &mut scratch)?;
+    Ok(Found::Direction(done.raster_direction))
 }
 
-fn binomial(c: Case, source: &[u8], destination: &mut [u8]) -> Outcome {
+fn binomial<'a, 'b>(src: Gray8View<'a>, dst: Gray8ViewMut<'b>) -> Result<Found, Refusal> {
     let mut scratch = [0u16; 256];
-    let answer = fixed_binomial_unsharp_into(
-        source,
-        c.source.width,
-        c.source.height,
-        c.source.stride,
-        destination,
-        c.destination.width,
-        c.destination.height,
-        c.destination.stride,
-        &mut scratch,
-    );
-    refused(answer.number())
+    fixed_binomial_unsharp_into(src, dst, &mut scratch)?;
+    Ok(Found::Pixels)
 }
 
-fn half(c: Case, source: &[u8], destination: &mut [u8]) -> Outcome {
-    let answer = box_downscale_half(
-        source,
-        c.source.width,
-        c.source.height,
-        c.source.stride,
-        destination,
-        c.destination.width,
-        c.destination.height,
-        c.destination.stride,
-    );
-    refused(answer.number())
+fn half<'a, 'b>(src: Gray8View<'a>, dst: Gray8ViewMut<'b>) -> Result<Found, Refusal> {
+    box_downscale_half(src, dst)?;
+    Ok(Found::Pixels)
 }
 
-fn halvings(c: Case, source: &[u8], destination: &mut [u8]) -> Outcome {
+fn halvings<'a, 'b>(c: Case, src: Gray8View<'a>, dst: Gray8ViewMut<'b>) -> Result<Found, Refusal> {
     let mut scratch = [0u8; 256];
-    let answer = halve(
-        source,
-        c.source.width,
-        c.source.height,
-        c.source.stride,
-        destination,
-        c.destination.width,
-        c.destination.height,
-        c.destination.stride,
-        c.count,
-        &mut scratch,
-    );
-    refused(answer.number())
+    halve(src, dst, c.count, &mut scratch)?;
+    Ok(Found::Pixels)
 }
 
-fn measure(c: Case, source: &[u8]) -> Outcome {
-    let config = LineLengthConfig {
-        minimum_transitions: c.count,
-        minimum_amplitude: c.amplitude,
+// The case's call.
+pub(crate) fn call(c: Case, source: &[u8], destination: &mut [u8]) -> Result<Found, Fault> {
+    let src = Gray8View::new(source, c.source.width, c.source.height, c.source.stride);
+    let lies = c.destination;
+    let dst = Gray8ViewMut::new(destination, lies.width, lies.height, lies.stride);
+    let found = match c.call? {
+        Call::FromAngle => snap(c)?,
+        Call::Direction => direct(src)?,
+        Call::Length => measure(c, src)?,
+        Call::Restoration => restore(c, src, dst)?,
+        Call::Unsharp => unsharp(c, src, dst)?,
+        Call::Binomial => binomial(src, dst)?,
+        Call::Half => half(src, dst)?,
+        Call::Halvings => halvings(c, src, dst)?,
     };
-    let none = Swing {
-        width: 0.0,
-        swing: 0,
-    };
-    length_outcome(length_at(
-        source,
-        c.source.width,
-        c.source.height,
-        c.source.stride,
-        c.angle,
-        config,
-        none,
-    ))
+    Ok(found)
 }
 
-fn direct(c: Case, source: &[u8]) -> Outcome {
-    direction_outcome(estimate_line_direction(
-        source,
-        c.source.width,
-        c.source.height,
-        c.source.stride,
-    ))
-}
-
-// The case's call. One that does not exist has an outcome that no case has.
-pub(crate) fn call(c: Case, source: &[u8], destination: &mut [u8]) -> Outcome {
-    let call = c.call;
-    match call {
-        0 => snapped(RasterDirection4::from_angle(c.angle)),
-        1 => direct(c, source),
-        2 => measure(c, source),
-        3 => restore(c, source, destination),
-        4 => unsharp(c, source, destination),
-        5 => binomial(c, source, destination),
-        6 => half(c, source, destination),
-        7 => halvings(c, source, destination),
-        _ => refused(255),
+// Whether an answer is the case's. A length is never 0 and never a NaN, so equal doubles have equal bits.
+pub(crate) fn agrees(answer: Result<Found, Fault>, c: Case) -> bool {
+    match answer {
+        Ok(found) => {
+            (c.number == 0) & (c.found == found.number()) & (c.estimate == found.estimate())
+        }
+        Err(fault) => (c.number == fault.number()) & (c.found == 0) & (c.estimate == 0.0),
     }
-}
-
-// The number as a case has it.
-fn rust_number(number: u8) -> u8 {
-    if number == 8 { 7 } else { number }
-}
-
-// A length is never 0 and never a NaN, so equal doubles have equal bits.
-pub(crate) fn agrees(o: Outcome, c: Case) -> bool {
-    (rust_number(o.number) == c.number) & (o.found == c.found) & (o.estimate == c.estimate)
 }

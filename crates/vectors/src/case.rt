@@ -15,17 +15,46 @@
 // What a call does not have is 0.
 ghost use Rattle.std.specs.Prelude.{◌≤◌, ◌<◌};
 
-#[derive(Clone, Copy)]
-pub struct Layout {
-    pub len: usize,
-    pub width: usize,
-    pub height: usize,
-    pub stride: usize,
+use image::Layout;
+
+// A call that a case may ask for.
+#[derive(Clone, Copy, Debug, PartialEq, Eq)]
+pub enum Call {
+    FromAngle,
+    Direction,
+    Length,
+    Restoration,
+    Unsharp,
+    Binomial,
+    Half,
+    Halvings,
 }
 
-#[derive(Clone, Copy)]
+// A number that no call has.
+#[derive(Clone, Copy, Debug, PartialEq, Eq)]
+pub struct NoCall;
+
+impl TryFrom<u8> for Call {
+    type Error = NoCall;
+
+    fn try_from(number: u8) -> Result<Call, NoCall> {
+        match number {
+            0 => Ok(Call::FromAngle),
+            1 => Ok(Call::Direction),
+            2 => Ok(Call::Length),
+            3 => Ok(Call::Restoration),
+            4 => Ok(Call::Unsharp),
+            5 => Ok(Call::Binomial),
+            6 => Ok(Call::Half),
+            7 => Ok(Call::Halvings),
+            _ => Err(NoCall),
+        }
+    }
+}
+
+#[derive(Clone, Copy, Debug, PartialEq)]
 pub struct Case {
-    pub call: u8,
+    pub call: Result<Call, NoCall>,
     pub number: u8,
     pub found: u8,
     pub border: u8,
@@ -42,30 +71,22 @@ pub struct Case {
 
 // The byte at a place; 0 behind the last.
 fn byte_at(bytes: &[u8], at: usize) -> u8 {
-    if at < bytes.len() {
-        return bytes[at];
+    bytes.get(at).copied().unwrap_or(0)
+}
+
+// N bytes from a place on.
+fn bytes_at<const N: usize>(bytes: &[u8], at: usize) -> [u8; N] {
+    let mut found = [0u8; N];
+    for (byte, i) in found.iter_mut().zip(at..) {
+        *byte = byte_at(bytes, i);
     }
-    0
+    found
 }
 
 fn u16_at(bytes: &[u8], at: usize) -> usize
-    requires { at < 64 }
     ensures { result < 65536 }
 {
-    byte_at(bytes, at) as usize + 256 * (byte_at(bytes, at + 1) as usize)
-}
-
-fn u32_at(bytes: &[u8], at: usize) -> usize
-    requires { at < 60 }
-    ensures { result < 4294967296 }
-{
-    u16_at(bytes, at) + 65536 * u16_at(bytes, at + 2)
-}
-
-fn u64_at(bytes: &[u8], at: usize) -> u64
-    requires { at < 50 }
-{
-    (u32_at(bytes, at) + 4294967296 * u32_at(bytes, at + 4)) as u64
+    usize::from(u16::from_le_bytes(bytes_at(bytes, at)))
 }
 
 // The double of a pattern. No double is made of a NaN's bits: each of them gives the same NaN.
@@ -76,10 +97,8 @@ fn double(bits: u64) -> f64 {
     f64::from_bits(bits)
 }
 
-fn double_at(bytes: &[u8], at: usize) -> f64
-    requires { at < 50 }
-{
-    double(u64_at(bytes, at))
+fn double_at(bytes: &[u8], at: usize) -> f64 {
+    double(u64::from_le_bytes(bytes_at(bytes, at)))
 }
 
 fn layout_at(bytes: &[u8], at: usize) -> Layout
@@ -94,10 +113,8 @@ fn layout_at(bytes: &[u8], at: usize) -> Layout
 }
 
 pub(crate) fn case_in(bytes: &[u8]) -> Case {
-    let source = layout_at(bytes, 10);
-    let destination = layout_at(bytes, 18);
     Case {
-        call: byte_at(bytes, 0),
+        call: Call::try_from(byte_at(bytes, 0)),
         number: byte_at(bytes, 1),
         found: byte_at(bytes, 2),
         border: byte_at(bytes, 3),
@@ -105,8 +122,8 @@ pub(crate) fn case_in(bytes: &[u8]) -> Case {
         amplitude: byte_at(bytes, 5),
         count: u16_at(bytes, 6),
         blur_length: u16_at(bytes, 8),
-        source,
-        destination,
+        source: layout_at(bytes, 10),
+        destination: layout_at(bytes, 18),
         angle: double_at(bytes, 26),
         factor: double_at(bytes, 34),
         estimate: double_at(bytes, 42),
@@ -122,20 +139,12 @@ pub(crate) fn size_at(bytes: &[u8]) -> usize
 
 // What stands behind the first n bytes.
 fn behind(bytes: &[u8], n: usize) -> &[u8] {
-    if bytes.len() < n {
-        return &bytes[..0];
-    }
-    &bytes[n..]
+    bytes.get(n..).unwrap_or(&[])
 }
 
 // The source's bytes; none where there are fewer.
 pub(crate) fn source_in(bytes: &[u8], c: Case) -> &[u8] {
-    let rest = behind(bytes, 50);
-    let n = c.source.len;
-    if rest.len() < n {
-        return &rest[..0];
-    }
-    &rest[..n]
+    behind(bytes, 50).get(..c.source.len).unwrap_or(&[])
 }
 
 // The destination's bytes are the rest.

@@ -1,35 +1,26 @@
 // The length call with records of its own.
 ghost use Rattle.std.specs.Prelude.{◌≡◌};
 ghost use Rattle.raster.specs.Direction.{from_angle};
-ghost use Rattle.image.specs.Call.{gray8};
-ghost use Rattle.blur.specs.Length.{snapped_decision, length_answer};
+ghost use Rattle.image.specs.Call.{told};
+ghost use Rattle.image.specs.View.{seen};
+ghost use Rattle.blur.specs.Length.{snapped_decision};
 
-use blur::length::{LengthAnswer, LineLengthConfig, estimate_line_length_with};
+use blur::length::{LineLengthConfig, estimate_line_length_with};
+use image::{Gray8View, Refusal};
 use swings::Swing;
 
-// The length of a picture of at most 256 pixels; `none` stands where no swing is written. Its contract says nothing of
-// the records.
-pub(crate) fn length_at(
-    data: &[u8],
-    width: usize,
-    height: usize,
-    stride: usize,
+// The length of a picture of at most 256 pixels. Its contract says nothing of the records.
+pub(crate) fn length_at<'a>(
+    src: Gray8View<'a>,
     theta_radians: f64,
     config: LineLengthConfig,
-    none: Swing,
-) -> LengthAnswer
-    ensures { result ≡ length_answer
-        (snapped_decision (gray8 «data».now width height stride) (from_angle theta_radians)
-        config.minimum_transitions config.minimum_amplitude 256) }
+) -> Result<Option<f64>, Refusal>
+    ensures { told result ≡ snapped_decision (seen src.entry) (from_angle theta_radians) config 256 }
 {
+    let none = Swing {
+        width: 0.0,
+        swing: 0,
+    };
     let mut swings = [none; 256];
-    estimate_line_length_with(
-        data,
-        width,
-        height,
-        stride,
-        theta_radians,
-        config,
-        &mut swings,
-    )
+    estimate_line_length_with(src, theta_radians, config, &mut swings)
 }

@@ -5,8 +5,7 @@
 ghost use Rattle.image.specs.Call.{gray8};
 ghost use Rattle.sharpen.specs.Call.{Sharpened};
 
-use image::{Gray8View, Gray8ViewMut};
-use sharpen::SharpenAnswer;
+use image::{Gray8View, Gray8ViewMut, Refusal};
 use std::io;
 use std::io::Write;
 
@@ -18,7 +17,7 @@ fn sharpen_in_views(
     height: usize,
     stride: usize,
     scratch: &mut [u16],
-) -> SharpenAnswer
+) -> Result<(), Refusal>
     ensures { Sharpened (gray8 src.now width height stride)
         (gray8 dst.old width height stride)
         dst.new scratch.old scratch.new result }
@@ -32,7 +31,10 @@ fn main(rt: HostRuntime) -> io::Result<()> {
     let text = *b"+-----+\n|KKKKK|\n|KKUKK|\n|KKKKK|\n+-----+\n";
     let mut out = *b".......\n.......\n.......\n.......\n.......\n";
     let mut scratch = [0u16; 15];
-    sharpen_in_views(&text[9..], &mut out[9..], 5, 3, 8, &mut scratch);
+    let answer = sharpen_in_views(&text[9..], &mut out[9..], 5, 3, 8, &mut scratch);
+    if let Err(refusal) = answer {
+        println!(&rt; "{refusal}")?;
+    }
     let mut to = io::writer(&rt);
     to.write_all(&text)?;
     to.write_all(&out)

@@ -1,1 +1,1 @@
--- Nothing of its own: each function hands a view's parts to one call.
+-- Nothing of its own: each call is the core's.

@@ -1,2 +1,1 @@
--- What the contracts of `views` cite.
-pub mod Pictures
+-- Nothing of its own: the calls' contracts are the core's, and what they say of views stands in `image`'s View.

@@ -1,33 +1,18 @@
--- `deblur::van_cittert_estimate_into` meets its contract: refused by its number, or the work along the direction.
-use Rattle.image.specs.Call.{gray8}
+-- `deblur::van_cittert_estimate_into` meets its contract, where the settings are refused.
+use Rattle.std.proofs.Common.{rules, sym}
+use Rattle.image.proofs.Call.{decided_accepts}
+use Rattle.deblur.specs.Refusal.{estimate_refusal}
 use Rattle.deblur.specs.Settings.{restoration_of}
-use Rattle.deblur.proofs.Calls.{estimate_call, Told, accepted, asked, relaxation_small, restoration_sound}
+use Rattle.deblur.proofs.Calls.{settings_refused, refused_told}
+use Rattle.deblur.proofs.Conditions.{restoration_directed}
 use Rattle.deblur.proofs.van_cittert_estimate_into.Goals as goal
 
-pub line_kernel-kernel-requires : goal.line_kernel-kernel-requires
-line_kernel-kernel-requires c =
-    let a = c.args in
-    let told : Told
-    (estimate_call (gray8 a.data.now a.width a.height a.stride)
-    a.dst.now (restoration_of a.config) a.scratch.now)
-    c.answer_along-answer.result =
-    record {
-      is = rw (rw c.restoration_refusal.ensures at c.estimate_refusal-refusal.ensures, c.raster_direction.ensures) at
-          c.answer_along-answer.ensures;
-    }
-    in
-    relaxation_small a.config _ _ (accepted told c.in-Done.is).settings
-
-pub estimates_along-requires : goal.estimates_along-requires
-estimates_along-requires c =
-    let a = c.args in
-    let told : Told
-    (estimate_call (gray8 a.data.now a.width a.height a.stride)
-    a.dst.now (restoration_of a.config) a.scratch.now)
-    c.answer_along-answer.result =
-    record {
-      is = rw (rw c.restoration_refusal.ensures at c.estimate_refusal-refusal.ensures, c.raster_direction.ensures) at
-          c.answer_along-answer.ensures;
-    }
-    in
-    asked told c.in-Done.is (restoration_sound _) c.line_kernel-kernel.ensures
+pub returns-in_err-plan : goal.returns-in_err-plan
+unfolding estimate_refusal
+returns-in_err-plan c =
+    let src = c.args.src in
+    refused_told _ _ _ _ c.in_err-plan.field-0.0
+    (settings_refused (restoration_of c.args.config) src.width src.height _ _ _
+    (restoration_directed c.args.config src.width src.height)
+    (decided_accepts _ _ _ (sym c.in_ok-check.ensures.number)).0 c.in_err-plan.ensures.decided)
+    (search rules)

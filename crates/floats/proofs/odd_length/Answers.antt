@@ -3,7 +3,7 @@
 use Rattle.std.proofs.Common.{◌^◌, ap, ◌∙◌, le_trans, le_of_eq}
 use lib.Ieee.{of_bits}
 use lib.Ieee.Positive.{num, den, den_pos}
-use Rattle.floats.specs.declared.OddLength.TheVariants.{Length}
+use Rattle.std.specs.Prelude.{Some}
 use Rattle.floats.specs.Odd.{odd_from}
 use Rattle.floats.proofs.Factor.{within_le}
 use Rattle.floats.proofs.Odd.{ceiling_smallest, test_low, test_within, test_length, test_beyond}
@@ -29,7 +29,7 @@ pub returns-then-estimate-2 : goal.returns-then-estimate-2
 unfolding of_bits
 returns-then-estimate-2 c =
     let x = c.args.estimate in
-    ap Length (c.odd_from.ensures ∙ ap odd_from c.raised.ensures)
+    ap Some (c.odd_from.ensures ∙ ap odd_from c.raised.ensures)
     ∙ test_length x c.if-estimate.false (test_within x c.if-estimate.false c.if-estimate-2.true)
 
 pub returns : goal.returns

@@ -1,7 +1,7 @@
 -- `floats::quantize` meets its contract: the test picks the case of `quantized`.
 use Rattle.std.proofs.Common.{sym, ap, ◌∙◌, arith}
 use denote.Floats.{passes}
-use Rattle.floats.specs.declared.Quantized.TheVariants.{Q16}
+use Rattle.std.specs.Prelude.{Some}
 use Rattle.floats.specs.Factor.{within}
 use Rattle.floats.proofs.Factor.{within_more, quantized_taken, quantized_refused}
 use Rattle.floats.proofs.quantize.Goals as goal
@@ -15,7 +15,7 @@ round_q16-requires c =
 pub returns-then-is_within : goal.returns-then-is_within
 returns-then-is_within c =
     let args = c.args in
-    ap Q16 c.round_q16.ensures
+    ap Some c.round_q16.ensures
     ∙ sym (quantized_taken args.limit args.factor
     (sym c.is_within.ensures ∙ c.if-is_within.true))
 

@@ -1,17 +1,17 @@
 -- Division on ℤ by a natural m > 0. `shr_z z m` is the floor of z / m: `shr_low` and `shr_high` say so, `shr_unique`
 -- that nothing else does; `shr_by_mul` has it by a multiplication. `quot_z z (pos d)` is cut toward zero: `quot_rem`,
--- `quot_near`, `quot_exact`; `shr_by_quot` makes the floor of it.
+-- `quot_near`, `quot_exact`.
 use mathlib.Core.Path.{◌≡◌, refl, sym, ap, ◌∙◌}
 use Prim.Native.Nat.{ℕ, suc, ◌+◌, ◌*◌, ◌/◌, ◌%◌, ◌<◌}
 use native.Mathlib.Nat.{mul_comm, mul-div-le, lt-mul-div-succ, div-add-mod, mod-lt, zero-mod, mul-div_right}
 use native.Mathlib.Omega.{arith}
-use lib.IntN.{ℤ, pos, negsuc, nat_abs, ◌+ℤ◌, ◌-ℤ◌, ◌*ℤ◌, +ℤ_comm, -ℤ-+ℤ_cancel}
+use lib.IntN.{ℤ, pos, negsuc, nat_abs, ◌+ℤ◌, ◌-ℤ◌, ◌*ℤ◌, +ℤ_comm}
 use lib.Signed.{◌≤ℤ◌, ◌<ℤ◌, quot_z, rem_z, shr_z, ≤ℤ_refl}
-use Rattle.numbers.proofs.Int.Ring.{z_ind, zring, ⊖-same, *ℤ-add, *ℤ-sub, sub_of_add}
-use Rattle.numbers.proofs.Int.Linear.{up, dn, linear, updown, up_add, up_sub, ≡-by_up, ≤ℤ-by_up, <ℤ-by_up}
-use Rattle.numbers.proofs.Int.Linear.{up_neg, dn_neg, nat_abs_up_dn}
+use Rattle.numbers.proofs.Int.Ring.{z_ind, zring, ⊖-same, *ℤ-add, sub_of_add}
+use Rattle.numbers.proofs.Int.Linear.{up, dn, linear, updown, up_add, ≡-by_up, ≤ℤ-by_up, <ℤ-by_up}
+use Rattle.numbers.proofs.Int.Linear.{up_neg, dn_neg}
 use Rattle.numbers.proofs.Int.Order.{≤ℤ-trans, ≤ℤ-<ℤ-trans, ≤ℤ-antisym, ≤ℤ-of-<ℤ-suc, *ℤ-<-cancel, +ℤ-mono}
-use Rattle.numbers.proofs.Int.Order.{+ℤ-mono-<, pos-<ℤ⁻¹}
+use Rattle.numbers.proofs.Int.Order.{+ℤ-mono-<}
 use Rattle.numbers.proofs.Int.Size.{nat_abs_rem}
 use Rattle.numbers.proofs.Nat.{div_by_mul}
 
@@ -99,41 +99,3 @@ quot_near z {d} p = rw (rem_sub z d, nat_abs_rem z (pos d)) (mod-lt (nat_abs z) 
 pub quot_exact : {d : ℕ} → 0 < d → (k : ℤ) → quot_z (pos d *ℤ k) (pos d) ≡ k
 quot_exact {d} p k =
     ≡-by_up (quot_z (pos d *ℤ k) (pos d)) k (simp updown (omega (arith, mul-div_right (up k) p, mul-div_right (dn k) p)))
-
--- the floor of it: one less where the remainder is negative
-module _ (z : ℤ) {d : ℕ} (p : 0 < d) where
-  below : nat_abs (rem_z z (pos d)) < d
-  below = rw (nat_abs_rem z (pos d)) (mod-lt (nat_abs z) p)
-
-  floor-is : pos 0 ≤ℤ rem_z z (pos d) → quot_z z (pos d) ≡ shr_z z d
-  floor-is h =
-      let q = quot_z z (pos d) in let r = rem_z z (pos d) in
-      shr_unique z d p q
-      (omega (arith, linear, quot_rem z d, up_add (pos d *ℤ q) r))
-      (rw (step d q) (omega
-      (arith, linear, quot_rem z d, up_add (pos d *ℤ q) r, up_add (pos d *ℤ q) (pos d), below, nat_abs_up_dn r)))
-
-  floor-is-less : rem_z z (pos d) <ℤ pos 0 → quot_z z (pos d) -ℤ pos 1 ≡ shr_z z d
-  floor-is-less h =
-      let q = quot_z z (pos d) in let r = rem_z z (pos d) in
-      shr_unique z d p (q -ℤ pos 1)
-      (rw (*ℤ-sub (pos d) q (pos 1))
-      (omega (
-        arith,
-        linear,
-        quot_rem z d,
-        up_add (pos d *ℤ q) r,
-        up_sub (pos d *ℤ q) (pos (d * 1)),
-        below,
-        nat_abs_up_dn
-            r,
-      )))
-      (rw (-ℤ-+ℤ_cancel q (pos 1)) (omega (arith, linear, quot_rem z d, up_add (pos d *ℤ q) r)))
-
-pub shr_by_quot : (z d : ℤ) → pos 0 <ℤ d → pos 0 ≤ℤ rem_z z d → quot_z z d ≡ shr_z z (nat_abs d)
-shr_by_quot z (pos d) p h = floor-is z (pos-<ℤ⁻¹ p) h
-shr_by_quot z (negsuc d) p h = absurd p.lt
-
-pub shr_by_quot_less : (z d : ℤ) → pos 0 <ℤ d → rem_z z d <ℤ pos 0 → quot_z z d -ℤ pos 1 ≡ shr_z z (nat_abs d)
-shr_by_quot_less z (pos d) p h = floor-is-less z (pos-<ℤ⁻¹ p) h
-shr_by_quot_less z (negsuc d) p h = absurd p.lt

@@ -9,9 +9,9 @@ use Prim.Native.Nat.{ℕ, zero, suc, ◌+◌, ◌*◌, ◌/◌, ◌<◌, ◌≤�
 use native.Mathlib.Nat.{mul-zero, zero-div}
 use native.Mathlib.Omega.{arith}
 use lib.Dec.{T, leb→le, le→leb, ltb→lt, lt→ltb}
-use lib.IntN.{ℤ, pos, negsuc, neg_ℤ, nat_abs, sub_ℕ, ◌+ℤ◌, ◌-ℤ◌, ◌*ℤ◌}
+use lib.IntN.{ℤ, pos, negsuc, neg_ℤ, nat_abs, ◌+ℤ◌, ◌-ℤ◌, ◌*ℤ◌}
 use lib.Signed.{◌≤ℤ◌, ◌<ℤ◌, le_z, lt_z, quot_z, lt_z_no}
-use Rattle.numbers.proofs.Int.Ring.{◌⊖◌, ⊖-sub, ⊖-add, ⊖-same, ⊖-same⁻¹, pos-⊖, negsuc-⊖}
+use Rattle.numbers.proofs.Int.Ring.{◌⊖◌, ⊖-add, ⊖-same, ⊖-same⁻¹, pos-⊖, negsuc-⊖}
 
 abbrev pub up : ℤ → ℕ
 up (pos n) = n
@@ -84,13 +84,6 @@ pub ruleset updown = (up_neg, dn_neg, up_mul, dn_mul, up_quot, dn_quot, nat_abs_
 -- a difference
 pub up_sub : (a b : ℤ) → up (a -ℤ b) + (dn a + up b) ≡ dn (a -ℤ b) + (up a + dn b)
 up_sub a b = simp updown at (up_add a (neg_ℤ b))
-
--- a difference of naturals
-pub up_sub_ℕ : (a b : ℕ) → up (sub_ℕ a b) + b ≡ dn (sub_ℕ a b) + a
-up_sub_ℕ a b = turn (⊖-same⁻¹ _ _ _ _ (sym (up_dn (sub_ℕ a b)) ∙ sym (⊖-sub a b)))
-  where
-    turn : up (sub_ℕ a b) + b ≡ a + dn (sub_ℕ a b) → up (sub_ℕ a b) + b ≡ dn (sub_ℕ a b) + a
-    turn e = omega arith
 
 -- ---- equations, orders and tests, read and proved
 

@@ -4,9 +4,9 @@ use mathlib.Core.Path.{◌≡◌}
 use Prim.Native.Nat.{ℕ, ◌+◌, ◌*◌, ◌≤◌, ◌<◌}
 use native.Mathlib.Nat.{lt_of_mul-lt-mul_left}
 use native.Mathlib.Omega.{arith}
-use lib.IntN.{ℤ, pos, neg_ℤ, ◌+ℤ◌, ◌*ℤ◌}
+use lib.IntN.{ℤ, pos, ◌+ℤ◌, ◌*ℤ◌}
 use lib.Signed.{◌≤ℤ◌, ◌<ℤ◌}
-use Rattle.numbers.proofs.Int.Linear.{up, dn, linear, updown, up_add, up-<ℤ, ≤ℤ-by_up, <ℤ-by_up}
+use Rattle.numbers.proofs.Int.Linear.{up, dn, linear, updown, up_add, up-<ℤ, <ℤ-by_up}
 
 pub ≤ℤ-trans : {a b c : ℤ} → a ≤ℤ b → b ≤ℤ c → a ≤ℤ c
 ≤ℤ-trans h k = omega (arith, linear)
@@ -17,27 +17,15 @@ pub ≤ℤ-<ℤ-trans : {a b c : ℤ} → a ≤ℤ b → b <ℤ c → a <ℤ c
 pub ≤ℤ-antisym : {a b : ℤ} → a ≤ℤ b → b ≤ℤ a → a ≡ b
 ≤ℤ-antisym h k = omega (arith, linear)
 
-pub ≤ℤ-of-<ℤ : {a b : ℤ} → a <ℤ b → a ≤ℤ b
-≤ℤ-of-<ℤ h = omega (arith, linear)
-
 -- ---- naturals
 
 pub pos-≤ℤ : {m n : ℕ} → m ≤ n → pos m ≤ℤ pos n
 pos-≤ℤ h = omega (arith, linear)
 
-pub pos-<ℤ : {m n : ℕ} → m < n → pos m <ℤ pos n
-pos-<ℤ h = omega (arith, linear)
-
-pub pos-<ℤ⁻¹ : {m n : ℕ} → pos m <ℤ pos n → m < n
-pos-<ℤ⁻¹ h = omega (arith, linear)
-
 -- ---- one more
 
 pub ≤ℤ-of-<ℤ-suc : (a b : ℤ) → a <ℤ (b +ℤ pos 1) → a ≤ℤ b
 ≤ℤ-of-<ℤ-suc a b h = omega (arith, linear, up_add b (pos 1))
-
-pub suc-≤ℤ : {a b : ℤ} → a <ℤ b → (a +ℤ pos 1) ≤ℤ b
-suc-≤ℤ {a} h = omega (arith, linear, up_add a (pos 1))
 
 -- ---- sums, negations, products by a natural
 
@@ -46,9 +34,6 @@ pub +ℤ-mono : {a b c d : ℤ} → a ≤ℤ b → c ≤ℤ d → (a +ℤ c) ≤
 
 pub +ℤ-mono-< : {a b c d : ℤ} → a <ℤ b → c ≤ℤ d → (a +ℤ c) <ℤ (b +ℤ d)
 +ℤ-mono-< {a} {b} {c} {d} h k = omega (arith, linear, up_add a c, up_add b d)
-
-pub negℤ-mono : {a b : ℤ} → a ≤ℤ b → neg_ℤ b ≤ℤ neg_ℤ a
-negℤ-mono {a} {b} h = ≤ℤ-by_up (neg_ℤ b) (neg_ℤ a) (simp updown (omega (arith, linear)))
 
 pub *ℤ-<-cancel : (m : ℕ) (a b : ℤ) → (pos m *ℤ a) <ℤ (pos m *ℤ b) → a <ℤ b
 *ℤ-<-cancel m a b h = <ℤ-by_up a b (lt_of_mul-lt-mul_left m (part (simp updown at (up-<ℤ h))))

@@ -157,9 +157,6 @@ sub_ℕ-neg {a} {b} h = rw (lt-ltb a b h)
 
 -- ---- products
 
-pub *ℤ-sub : (a b c : ℤ) → a *ℤ (b -ℤ c) ≡ a *ℤ b -ℤ a *ℤ c
-*ℤ-sub = z_ind _ λ a a'. z_ind _ λ b b'. z_ind _ λ c c'. simp zring (omega (arith, ⊖-same))
-
 pub one-*ℤ : (z : ℤ) → pos 1 *ℤ z ≡ z
 one-*ℤ = z_ind _ λ a a'. simp zring (omega (arith, ⊖-same))
 
@@ -171,12 +168,6 @@ suc-*ℤ n = z_ind _ λ a a'. simp zring (omega (arith, ⊖-same))
 
 pub -ℤ-self : (z : ℤ) → z -ℤ z ≡ pos 0
 -ℤ-self = +ℤ_invr
-
-pub add_sub_cancel_left : (a b : ℤ) → a +ℤ b -ℤ a ≡ b
-add_sub_cancel_left = z_ind _ λ a a'. z_ind _ λ b b'. simp zring (omega (arith, ⊖-same))
-
-pub add_sub_assoc : (a b c : ℤ) → a +ℤ b -ℤ c ≡ a +ℤ (b -ℤ c)
-add_sub_assoc a b c = +ℤ_assoc a b (neg_ℤ c)
 
 -- a sum moved to the other side
 pub sub_of_add : (a b : ℤ) {c : ℤ} → a +ℤ b ≡ c → a ≡ c -ℤ b

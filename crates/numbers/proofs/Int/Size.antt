@@ -8,8 +8,7 @@ use lib.IntN.{ℤ, pos, negsuc, neg_ℤ, nat_abs, ◌+ℤ◌, ◌-ℤ◌, ◌*�
 use lib.Signed.{◌≤ℤ◌, quot_z, rem_z, shr_z, mag, nat_abs-le}
 use mir.Syntax.{Width}
 use mir.Val.{SFits, hbits}
-use Rattle.numbers.proofs.Int.Linear.{up, dn, up_or_dn, nat_abs_up_dn, updown, linear, up_add, up_sub, up-≤ℤ}
-use Rattle.numbers.proofs.Int.Linear.{≤ℤ-by_up}
+use Rattle.numbers.proofs.Int.Linear.{up, dn, up_or_dn, nat_abs_up_dn, updown, linear, up_add, up_sub}
 
 -- ---- the operations
 
@@ -55,18 +54,6 @@ nat_abs_zero z e = omega (arith, linear, nat_abs_up_dn z)
 pub nat_abs_pos : (z : ℤ) → pos 0 ≤ℤ z → pos (nat_abs z) ≡ z
 nat_abs_pos (pos n) h = refl
 nat_abs_pos (negsuc n) h = absurd h.le
-
--- ---- a bound on the size is a bound on both sides
-
-pub nat_abs-≤ : (z : ℤ) {b : ℕ} → neg_ℤ (pos b) ≤ℤ z → z ≤ℤ pos b → nat_abs z ≤ b
-nat_abs-≤ (pos n) h k = omega (arith, linear)
-nat_abs-≤ (negsuc n) {b} h k = omega (arith, simp updown at (up-≤ℤ {a = neg_ℤ (pos b)} {b = negsuc n} h))
-
-pub ≤ℤ-nat_abs : (z : ℤ) {b : ℕ} → nat_abs z ≤ b → z ≤ℤ pos b
-≤ℤ-nat_abs z h = omega (arith, linear, nat_abs_up_dn z)
-
-pub neg-≤ℤ-nat_abs : (z : ℤ) {b : ℕ} → nat_abs z ≤ b → neg_ℤ (pos b) ≤ℤ z
-neg-≤ℤ-nat_abs z {b} h = ≤ℤ-by_up (neg_ℤ (pos b)) z (simp updown (omega (arith, nat_abs_up_dn z)))
 
 -- of two naturals within c
 pub nat_abs_sub_pos : {a b c : ℕ} → a ≤ c → b ≤ c → nat_abs (pos a -ℤ pos b) ≤ c

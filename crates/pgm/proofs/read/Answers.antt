@@ -1,10 +1,14 @@
 -- `pgm::read` meets its contract.
-use mathlib.Core.Path.{refl, ◌∙◌}
+use Rattle.std.proofs.Common.{◌∙◌}
 use Rattle.pgm.proofs.Headers.{answer_given, answer_broken}
+use Rattle.pgm.proofs.Parsed.{pixels_within}
 use Rattle.pgm.proofs.read.Goals as goal
 
-pub returns-in-Header : goal.returns-in-Header
-returns-in-Header c = c.picture_of.ensures ∙ answer_given _ c.in-Header.ensures refl
+pub returns-in_default : goal.returns-in_default
+returns-in_default c = answer_broken _ c.in_default.ensures
 
-pub returns-in-Broken : goal.returns-in-Broken
-returns-in-Broken c = answer_broken _ c.in-Broken.ensures refl
+pub picture_of-requires : goal.picture_of-requires
+picture_of-requires c = pixels_within c.args.file.now _ c.in-Some.ensures
+
+pub returns : goal.returns
+returns c = c.picture_of.ensures ∙ answer_given c.args.file.now _ c.in-Some.ensures

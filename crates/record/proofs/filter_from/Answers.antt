@@ -4,18 +4,14 @@ use Rattle.std.proofs.Common.{◌≡◌, arith}
 use Rattle.record.specs.Record.{filter_from}
 use Rattle.record.proofs.filter_from.Goals as goal
 
-pub returns-then-fields-eq0 : goal.returns-then-fields-eq0
+pub returns-in-1 : goal.returns-in-1
 unfolding filter_from
-returns-then-fields-eq0 c =
-    let z : c.args.fields.blur_length ≡ 0 = omega arith in
-    rw (c.in-1.is, z, c.factor_of_q16-factor.ensures)
+returns-in-1 c = rw (c.in-1.is, c.if-fields-eq0.true, c.factor_of_q16-factor.ensures)
 
-pub returns-else-fields-eq0 : goal.returns-else-fields-eq0
+pub returns-in-1-2 : goal.returns-in-1-2
 unfolding filter_from
-returns-else-fields-eq0 c =
-    let l = c.args.fields.blur_length in
-    let z : l ≡ 0 → ⊥ = omega arith in
-    rw (c.in-1.is, ne_eqb l 0 z, c.factor_of_q16-factor.ensures)
+returns-in-1-2 c =
+    rw (c.in-1.is, ne_eqb c.args.fields.blur_length 0 c.if-fields-eq0.false, c.factor_of_q16-factor.ensures)
 
 pub returns-in-2 : goal.returns-in-2
 unfolding filter_from

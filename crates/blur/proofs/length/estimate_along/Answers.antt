@@ -1,74 +1,54 @@
--- A refusal returns before anything is written; else the records that the scan wrote are what the selection asks for.
-use Rattle.std.proofs.Common.{◌≡◌, ◌∙◌, ap, sym, subst, ℕ, length, List, ◌≤◌}
-use Rattle.swings.specs.Line.{ValidPlan}
-use Rattle.swings.specs.Scan.{rest, begun, Filled}
-use Rattle.swings.specs.declared.Swing.{Swing}
-use Rattle.swings.specs.declared.scan.Scan.{Scan}
-use Rattle.swings.specs.declared.scan.ScanPlan.{ScanPlan}
-use Rattle.blur.specs.declared.length.LengthAnswer.TheVariants.{Refused}
-use Rattle.blur.proofs.ScanPlans.{valid_plan}
-use Rattle.blur.proofs.Estimate.{measured_refused, some_lent, all_lent, within_lent, numbers, selectable}
-use Rattle.blur.proofs.Estimate.{measured_length}
+-- The records that the scan wrote are what the selection asks for.
+use Rattle.std.proofs.Common.{sym, ◌∙◌, arith}
+use Rattle.image.specs.View.{seen}
+use Rattle.blur.proofs.ScanPlans.{stride_fits, plan_few}
+use Rattle.blur.proofs.Estimate.{measured, numbers, selectable, length_is}
 use Rattle.blur.proofs.length.estimate_along.Goals as goal
 
--- the plan's refusal is the call's, and what was filled is what the plan says
-number_is : {q : ScanPlan} (p : ScanPlan) → p ≡ q → p.refusal ≡ q.refusal
-number_is p e = ap (λ (r : ScanPlan). r.refusal) e
+pub returns-then-too_little : goal.returns-then-too_little
+returns-then-too_little c =
+    measured (seen c.args.src) _ _ _ _ _ (rw c.layout.ensures at c.in_ok-check_length.ensures.number)
+    (rw (sym c.too_little.ensures ∙ c.if-too_little.true))
 
-filled_is : (xs : List ℕ) (zs : List Swing) (s : Scan) {p q : ScanPlan} → p ≡ q
-    → Filled xs (rest xs p begun.next) zs s → Filled xs (rest xs q begun.next) zs s
-filled_is xs zs s e f = subst (λ (r : ScanPlan). Filled xs (rest xs r begun.next) zs s) e f
-
-pub returns-then-plan-ne0 : goal.returns-then-plan-ne0
-returns-then-plan-ne0 c =
-    let a = c.args in
-    let n = number_is c.scan_plan-plan.result c.scan_plan-plan.ensures in
-    measured_refused a.«data».now a.width a.height a.stride a.direction a.minimum_transitions a.minimum_amplitude
-    a.swings.now (λ z. c.if-plan-ne0.true (n ∙ z)) c.refused.result (c.refused.ensures ∙ ap Refused n)
-
-pub fill-s-requires : goal.fill-s-requires
-fill-s-requires c =
-    let a = c.args in
-    let p = c.scan_plan-plan.ensures in
-    let e = sym (number_is c.scan_plan-plan.result p) ∙ c.if-plan-ne0.false in (
-      subst (λ (q : ScanPlan). ValidPlan q (length a.«data».now)) (sym p)
-          (valid_plan (length a.«data».now) (length a.swings.now) a.width a.height a.stride a.direction
-          a.minimum_transitions a.minimum_amplitude e),
-      c.begin.ensures,
-      some_lent a.«data».now a.width a.height a.stride a.direction a.minimum_transitions a.minimum_amplitude
-          a.swings.now e,
-      subst (λ (q : ScanPlan). length (rest a.«data».now q begun.next) ≤ length a.swings.now) (sym p)
-          (all_lent a.«data».now a.width a.height a.stride a.direction a.minimum_transitions a.minimum_amplitude
-          a.swings.now e),
+pub scan_plan-plan-requires : goal.scan_plan-plan-requires
+scan_plan-plan-requires c =
+    let a = rw c.layout.ensures at c.in_ok-check_length.ensures.accepted in
+    let l = a.picture in (
+      record {
+        some_columns = l.width_pos;
+        some_rows = l.height_pos;
+        few_columns = l.width_most;
+        few_rows = l.height_most;
+      },
+      omega (arith, l.width_pos, l.stride_least),
+      stride_fits (seen c.args.src) l c.args.config (sym c.too_little.ensures ∙ c.if-too_little.false) c.ranges.src.0,
     )
+
+pub fill-scan-requires-clause-enough : goal.fill-scan-requires-clause-enough
+fill-scan-requires-clause-enough c =
+    let a = rw c.layout.ensures at c.in_ok-check_length.ensures.accepted in
+    rw c.scan_plan-plan.ensures (omega (
+      arith,
+      a.records_least,
+      plan_few (seen c.args.src) a.picture c.args.direction c.args.config,
+    ))
 
 pub opened-requires : goal.opened-requires
 opened-requires c =
-    let a = c.args in
-    let p = c.scan_plan-plan.ensures in
-    let e = sym (number_is c.scan_plan-plan.result p) ∙ c.if-plan-ne0.false in
-    let f = filled_is a.«data».now c.fill-s.new.swings c.fill-s.result p c.fill-s.ensures in
-    numbers a.«data».now a.width a.height a.stride a.direction a.minimum_transitions a.minimum_amplitude a.swings.now
-    e c.fill-s.result c.fill-s.new.swings f
+    let a = rw c.layout.ensures at c.in_ok-check_length.ensures.accepted in
+    numbers (seen c.args.src) a.picture c.args.direction c.args.config _ _
+    (rw c.scan_plan-plan.ensures at c.fill-scan.ensures)
 
 pub select-requires : goal.select-requires
 select-requires c =
-    let a = c.args in
-    let p = c.scan_plan-plan.ensures in
-    let e = sym (number_is c.scan_plan-plan.result p) ∙ c.if-plan-ne0.false in
-    let f = filled_is a.«data».now c.fill-s.new.swings c.fill-s.result p c.fill-s.ensures in (
-      within_lent a.«data».now a.width a.height a.stride a.direction a.minimum_transitions a.minimum_amplitude
-          a.swings.now e c.fill-s.result c.fill-s.new.swings f c.opened.result c.opened.ensures c.fill-s.auto.swings,
-      selectable a.«data».now a.width a.height a.stride a.direction a.minimum_transitions a.minimum_amplitude
-          a.swings.now e c.fill-s.result c.fill-s.new.swings f c.opened.result c.opened.ensures,
-    )
+    let a = rw c.layout.ensures at c.in_ok-check_length.ensures.accepted in
+    selectable (seen c.args.src) a.picture c.args.direction c.args.config _ _
+    (rw c.scan_plan-plan.ensures at c.fill-scan.ensures) _ c.opened.ensures
 
 pub returns : goal.returns
 returns c =
-    let a = c.args in
-    let p = c.scan_plan-plan.ensures in
-    let e = sym (number_is c.scan_plan-plan.result p) ∙ c.if-plan-ne0.false in
-    let f = filled_is a.«data».now c.fill-s.new.swings c.fill-s.result p c.fill-s.ensures in
-    measured_length a.«data».now a.width a.height a.stride a.direction a.minimum_transitions a.minimum_amplitude
-    a.swings.now e c.fill-s.result c.fill-s.new.swings f c.opened.result c.opened.ensures c.select.result
-    c.select.ensures
+    let a = rw c.layout.ensures at c.in_ok-check_length.ensures.accepted in
+    measured (seen c.args.src) _ _ _ _ _ (rw c.layout.ensures at c.in_ok-check_length.ensures.number)
+    (c.select.ensures
+    ∙ length_is (seen c.args.src) a.picture c.args.direction c.args.config _ _
+    (rw c.scan_plan-plan.ensures at c.fill-scan.ensures) (sym c.too_little.ensures ∙ c.if-too_little.false))

@@ -5,5 +5,5 @@ use Rattle.deblur.proofs.kernel.estimates_along.Goals as goal
 pub returns : goal.returns
 returns c =
     let a = c.args in
-    along_painted (λ v. v) a.data.now a.width a.height a.stride _ a.direction a.kernel
-    (rw c.row_stride.ensures at c.estimate_lines_into.ensures)
+    along_painted (λ v. v) a.src.«data».now a.src.width a.src.height a.src.stride _ a.direction a.kernel
+    (rw c.row_stride.ensures at c.write_lines.ensures)

@@ -8,7 +8,10 @@ use Rattle.deblur.proofs.kernel.restore_along.Goals as goal
 pub returns : goal.returns
 returns c =
     let a = c.args in
-    let painted = rw (c.row_stride.ensures, c.row_stride-2.ensures) at c.restore_lines_into.ensures in
-    painted_stride (λ x y. clamp_byte (kernel_estimate a.data.now a.width a.height a.stride a.direction a.kernel x y))
-    a.width a.height a.dst_stride c.requires.1.width_pos c.requires.1.stride_least
-    (along_painted clamp_byte a.data.now a.width a.height a.stride _ a.direction a.kernel painted)
+    let src = a.src in
+    let laid = c.requires.laid_dst in
+    let painted = rw (c.row_stride.ensures, c.row_stride-dst_stride.ensures) at c.write_lines.ensures in
+    painted_stride
+    (λ x y. clamp_byte (kernel_estimate src.«data».now src.width src.height src.stride a.direction a.kernel x y))
+    src.width src.height a.dst_stride laid.width_pos laid.stride_least
+    (along_painted clamp_byte src.«data».now src.width src.height src.stride _ a.direction a.kernel painted)

@@ -5,33 +5,28 @@ use mathlib.Core.Path.{refl}
 use Rattle.deblur.proofs.LineByLine.{line_start, line_asked, line_estimates}
 use Rattle.deblur.proofs.lines.restore_scan_line.Goals as goal
 
-pub overflow_mul-start : goal.overflow_mul-start
-overflow_mul-start c =
-    let first = line_start c.requires.0.walked.laid c.args.direction c.args.k c.requires.1 c.line_at-line.result
-    c.line_at-line.ensures _ refl
-    in
-    omega (arith, first)
+pub places_of-requires : goal.places_of-requires
+places_of-requires c =
+    let a = c.args in
+    let w = c.requires.asked.walked in
+    let first = line_start w.laid a.direction a.k c.requires.below c.line_at-line.result c.line_at-line.ensures _ refl in
+    (omega (arith, w.laid.width_pos, w.laid.stride_least), w.stride_most, omega (arith, first))
 
-pub overflow_add-start : goal.overflow_add-start
-overflow_add-start c =
-    let first = line_start c.requires.0.walked.laid c.args.direction c.args.k c.requires.1 c.line_at-line.result
-    c.line_at-line.ensures _ refl
-    in
-    omega (arith, first)
-
-pub restore_line-requires : goal.restore_line-requires
-restore_line-requires c = (
-  line_asked c.requires.0.walked.laid c.args.direction c.args.k c.requires.1 c.line_at-line.result
-      c.line_at-line.ensures _ c.place_step-step.ensures _ c.requires.0.room,
-  c.requires.0.taken,
-)
+pub restore_line-requires-clause-asked : goal.restore_line-requires-clause-asked
+restore_line-requires-clause-asked c =
+    let a = c.args in
+    let asked = c.requires.asked in
+    rw c.places_of.ensures
+    (line_asked asked.walked.laid a.direction a.k c.requires.below c.line_at-line.result c.line_at-line.ensures _ refl _
+    asked.room)
 
 pub returns : goal.returns
 returns c =
+    let a = c.args in
     record {
       line_is = c.line_at-line.ensures;
       estimates =
-          line_estimates c.requires.0.walked.laid c.args.direction c.args.k c.requires.1 c.line_at-line.result
-          c.line_at-line.ensures _ c.place_step-step.ensures c.args.data.now c.args.kernel
-          c.restore_line.new.scratch c.restore_line.ensures;
+          line_estimates c.requires.asked.walked.laid a.direction a.k c.requires.below c.line_at-line.result
+          c.line_at-line.ensures _ refl a.src.data.now a.kernel c.restore_line.new.scratch
+          (rw c.places_of.ensures at c.restore_line.ensures);
     }

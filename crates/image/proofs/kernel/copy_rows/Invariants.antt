@@ -1,11 +1,6 @@
-use Prim.Native.Nat.{◌-◌, ◌≤◌}
 use Rattle.numbers.specs.Written.{Painted}
 use Rattle.image.specs.Picture.{pixel}
 use Rattle.image.proofs.kernel.copy_rows.Given as goal
 
 abbrev pub invariant-loop-y : goal.invariant-loop-y
-invariant-loop-y l =
-    (l.y ≤ l.height) × Painted 0 (pixel l.«data» l.stride) l.width l.y l.dst_stride l.initial.dst l.dst
-
-abbrev pub decreases-loop-y : goal.decreases-loop-y
-decreases-loop-y l = l.height - l.y
+invariant-loop-y l = Painted 0 (pixel l.src.«data».now l.src.stride) l.src.width l.y l.dst_stride l.initial.dst l.dst

@@ -1,14 +1,10 @@
-use mathlib.Core.Path.{◌≡◌}
-use Prim.Native.Nat.{◌-◌, ◌≤◌}
-use lib.ListN.{length}
-use Rattle.line.specs.Kernel.{bytes_on}
-use Rattle.line.proofs.KernelGather.{Filled}
+use Rattle.std.proofs.Common.{◌≡◌, ℕ, ◌<◌}
+use Rattle.line.specs.Kernel.{bytes_on, line_at}
 use Rattle.line.proofs.kernel.gather.Given as goal
 
 abbrev pub invariant-loop-i : goal.invariant-loop-i
 invariant-loop-i l =
-    (l.i ≤ l.n) × (length l.scratch ≡ length l.initial.scratch)
-    × Filled 0 l.i (bytes_on l.data l.start l.step) l.scratch × Filled l.n l.i (bytes_on l.data l.start l.step) l.scratch
-
-abbrev pub decreases-loop-i : goal.decreases-loop-i
-decreases-loop-i l = l.n - l.i
+    record {
+      observed : (j : ℕ) → j < l.i → line_at 0 l.scratch j ≡ bytes_on l.data l.places.start l.places.step j;
+      estimate : (j : ℕ) → j < l.i → line_at l.places.len l.scratch j ≡ bytes_on l.data l.places.start l.places.step j;
+    }

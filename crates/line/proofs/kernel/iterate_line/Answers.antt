@@ -11,14 +11,14 @@ line_mean-requires c =
     let a = c.requires in
     let value : border_value c.args.kernel.border ≤ 255 = search rules in
     mean_asked c.args.kernel c.args.n a.some value a.taken a.short
-    (line_at 0 c.args.scratch.now) a.bytes a.more c.reciprocal_of-reciprocal.ensures a.room a.iterated
+    (line_at 0 c.args.scratch.now) a.bytes a.more c.reciprocal_of.ensures a.room a.iterated
 
 pub line_step-requires : goal.line_step-requires
 line_step-requires c =
     let a = c.requires in
     let value : border_value c.args.kernel.border ≤ 255 = search rules in
     step_asked c.args.kernel c.args.n a.some value a.taken a.short
-    (line_at 0 c.args.scratch.now) a.bytes a.more c.reciprocal_of-reciprocal.ensures a.room a.iterated
+    (line_at 0 c.args.scratch.now) a.bytes a.more c.reciprocal_of.ensures a.room a.iterated
     c.line_mean.ensures
 
 pub returns : goal.returns
@@ -26,5 +26,5 @@ returns c =
     let a = c.requires in
     let value : border_value c.args.kernel.border ≤ 255 = search rules in
     iterated_next c.args.kernel c.args.n a.some value a.taken a.short
-    (line_at 0 c.args.scratch.now) a.bytes a.more c.reciprocal_of-reciprocal.ensures a.room a.iterated
+    (line_at 0 c.args.scratch.now) a.bytes a.more c.reciprocal_of.ensures a.room a.iterated
     c.line_mean.ensures c.line_step.ensures

@@ -1,6 +1,5 @@
 -- `line::kernel::restore_line` meets its contract.
 use borrow.Author.Rules.{rules}
-use mathlib.Core.Path.{refl}
 use Prim.Native.Nat.{◌+◌, ◌*◌, ◌≤◌}
 use native.Mathlib.Omega.{arith}
 use lib.ListN.{length}
@@ -11,25 +10,24 @@ use Rattle.line.proofs.KernelIteration.{iterated_none, iteration_asked, iterated
 use Rattle.line.proofs.kernel.restore_line.Goals as goal
 
 pub loop-k-init : goal.loop-k-init
-loop-k-init c = (omega arith, refl, iterated_none c.args.kernel c.gather.ensures)
+loop-k-init c = iterated_none c.args.kernel c.gather.ensures
 
 pub iterate_line-requires : goal.iterate_line-requires
 iterate_line-requires c =
-    let line = c.requires.0 in
+    let line = c.requires.asked in
+    let places = c.args.places in
     let value : border_value c.args.kernel.border ≤ 255 = search rules in
-    let samples = bytes_on c.args.data.now c.args.start c.args.step in
-    let bytes : Bounded c.args.n 255 samples =
-    λ i h. omega (arith, c.type_inv.data (c.args.start + i * c.args.step))
+    let samples = bytes_on c.args.data.now places.start places.step in
+    let bytes : Bounded places.len 255 samples =
+    λ i h. omega (arith, c.type_inv.data (places.start + i * places.step))
     in
-    let room : 3 * c.args.n ≤ length c.loop-k.scratch = omega (arith, line.room) in
-    iteration_asked c.args.kernel c.args.n line.some value samples c.loop-k.invariant.2 line.short room
-    c.requires.1 c.loop-k-test.true bytes
+    let room : 3 * places.len ≤ length c.loop-k.scratch = omega (arith, line.room) in
+    iteration_asked c.args.kernel places.len line.some value samples c.loop-k.invariant line.short room
+    c.requires.taken c.loop-k-test.true bytes
 
 pub loop-k-preserved : goal.loop-k-preserved
 loop-k-preserved c =
     let value : border_value c.args.kernel.border ≤ 255 = search rules in
-    let samples = bytes_on c.args.data.now c.args.start c.args.step in (
-      omega arith,
-      omega arith,
-      iterated_on c.args.kernel c.args.n c.requires.0.some value samples c.loop-k.invariant.2 c.iterate_line.ensures,
-    )
+    let places = c.args.places in
+    let samples = bytes_on c.args.data.now places.start places.step in
+    iterated_on c.args.kernel places.len c.requires.asked.some value samples c.loop-k.invariant c.iterate_line.ensures

@@ -1,14 +1,11 @@
 -- `line::mean::floor_by_mul` meets its contract.
-use borrow.Author.Rules.{rules}
 use Rattle.line.proofs.KernelSum.{Dividing, quotient_fits, quotient_narrows, quotient_lowers, quotient_floors}
 use Rattle.line.proofs.mean.floor_by_mul.Goals as goal
 
-dividing : (c : goal.After-signed) → Dividing c.args.sum c.signed.result c.args.blur_length c.args.reciprocal
+dividing : (c : goal.Start) → Dividing c.args.sum c.args.blur_length c.args.reciprocal
 dividing c =
     record {
       sum_fits = c.ranges.sum;
-      length_fits = search rules;
-      is = c.signed.ensures;
       long = c.requires.0.long;
       bounded = c.requires.0.bounded;
       units = c.requires.0.units c.requires.1;

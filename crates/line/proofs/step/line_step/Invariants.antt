@@ -1,9 +1,5 @@
-use Prim.Native.Nat.{◌-◌, ◌≤◌}
 use Rattle.line.specs.Kernel.{LineStepped}
 use Rattle.line.proofs.step.line_step.Given as goal
 
 abbrev pub invariant-loop-i : goal.invariant-loop-i
-invariant-loop-i l = (l.i ≤ l.n) × LineStepped l.n l.i l.q l.initial.scratch l.scratch
-
-abbrev pub decreases-loop-i : goal.decreases-loop-i
-decreases-loop-i l = l.n - l.i
+invariant-loop-i l = LineStepped l.n l.i l.q l.initial.scratch l.scratch

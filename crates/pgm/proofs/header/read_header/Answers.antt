@@ -1,48 +1,59 @@
 -- `pgm::header::read_header` meets its contract: three fields, one behind the other, and the white byte.
-use mathlib.Core.Path.{◌≡◌, refl, sym, ◌∙◌}
-use mathlib.Core.List.{List}
-use mathlib.Core.Bool.{true}
-use Prim.Native.Nat.{ℕ}
-use lib.ListN.{drop}
-use Rattle.pgm.specs.Places.{Behind}
-use Rattle.pgm.specs.Read.{is_marked}
-use Rattle.pgm.proofs.Fields.{read_missing, read_number}
-use Rattle.pgm.proofs.Headers.{marked_long, header_unmarked, header_no_width, header_no_height, header_no_maximum}
-use Rattle.pgm.proofs.Headers.{header_fields, header_last}
+use Rattle.std.proofs.Common.{sym, ◌∙◌}
+use Rattle.pgm.proofs.Headers.{is_mark, field_none, field_some}
+use Rattle.pgm.proofs.Headers.{header_unmarked, header_no_width, header_no_height, header_no_maximum, header_fields}
+use Rattle.pgm.proofs.Headers.{header_no_last, header_last}
 use Rattle.pgm.proofs.header.read_header.Goals as goal
 
-pub returns-then-not-is_marked : goal.returns-then-not-is_marked
-returns-then-not-is_marked c = header_unmarked _ (sym c.is_marked.ensures ∙ c.if-not-is_marked.true)
-
-behind-mark : (file : List ℕ) → is_marked file ≡ true → Behind file 2 (drop 2 file)
-behind-mark file marked = record { within = marked_long file marked; dropped = refl }
-
-pub returns-in-Missing : goal.returns-in-Missing
-returns-in-Missing c =
+pub returns-in_err-fields : goal.returns-in_err-fields
+returns-in_err-fields c =
     let file = c.args.file.now in
-    let marked = sym c.is_marked.ensures ∙ c.if-not-is_marked.false in
-    header_no_width file marked (read_missing (behind-mark file marked) c.in-Missing.ensures refl)
+    rw c.from_residual.ensures (header_unmarked file (sym (is_mark file) ∙ c.in_err-fields.ensures.cases))
 
-pub returns-in-Missing-field_at : goal.returns-in-Missing-field_at
-returns-in-Missing-field_at c =
+pub returns-in_err-width : goal.returns-in_err-width
+returns-in_err-width c =
     let file = c.args.file.now in
-    let marked = sym c.is_marked.ensures ∙ c.if-not-is_marked.false in
-    let w = read_number (behind-mark file marked) c.in-Number.ensures refl in
-    header_no_height file marked w.1.0 (read_missing w.1.1.behind c.in-Missing-field_at.ensures refl)
+    let mark = c.in_ok-fields.ensures.cases in
+    let marked = sym (is_mark file) ∙ mark.0 in
+    rw c.from_residual-in_err-width.ensures
+    (header_no_width file marked (field_none mark.1 c.in_err-width.ensures))
 
-pub returns-in-Missing-field_at-2 : goal.returns-in-Missing-field_at-2
-returns-in-Missing-field_at-2 c =
+pub returns-in_err-height : goal.returns-in_err-height
+returns-in_err-height c =
     let file = c.args.file.now in
-    let marked = sym c.is_marked.ensures ∙ c.if-not-is_marked.false in
-    let w = read_number (behind-mark file marked) c.in-Number.ensures refl in
-    let h = read_number w.1.1.behind c.in-Number-field_at.ensures refl in
-    header_no_maximum file marked w.1.0 h.1.0 (read_missing h.1.1.behind c.in-Missing-field_at-2.ensures refl)
+    let mark = c.in_ok-fields.ensures.cases in
+    let marked = sym (is_mark file) ∙ mark.0 in
+    let w = field_some mark.1 c.in_ok-width.ensures in
+    rw c.from_residual-in_err-height.ensures
+    (header_no_height file marked w.1.0 (field_none w.1.1.rest c.in_err-height.ensures))
 
-pub returns-in-Number-field_at-2 : goal.returns-in-Number-field_at-2
-returns-in-Number-field_at-2 c =
+pub returns-in_err-maximum : goal.returns-in_err-maximum
+returns-in_err-maximum c =
     let file = c.args.file.now in
-    let marked = sym c.is_marked.ensures ∙ c.if-not-is_marked.false in
-    let w = read_number (behind-mark file marked) c.in-Number.ensures refl in
-    let h = read_number w.1.1.behind c.in-Number-field_at.ensures refl in
-    let m = read_number h.1.1.behind c.in-Number-field_at-2.ensures refl in
-    rw (c.last_at.ensures, header_fields file marked w.1.0 h.1.0 m.1.0) (header_last file w.1.1 h.1.1 m.1.1)
+    let mark = c.in_ok-fields.ensures.cases in
+    let marked = sym (is_mark file) ∙ mark.0 in
+    let w = field_some mark.1 c.in_ok-width.ensures in
+    let h = field_some w.1.1.rest c.in_ok-height.ensures in
+    rw c.from_residual-in_err-maximum.ensures
+    (header_no_maximum file marked w.1.0 h.1.0 (field_none h.1.1.rest c.in_err-maximum.ensures))
+
+pub returns-in_err-behind_white : goal.returns-in_err-behind_white
+returns-in_err-behind_white c =
+    let file = c.args.file.now in
+    let mark = c.in_ok-fields.ensures.cases in
+    let marked = sym (is_mark file) ∙ mark.0 in
+    let w = field_some mark.1 c.in_ok-width.ensures in
+    let h = field_some w.1.1.rest c.in_ok-height.ensures in
+    let m = field_some h.1.1.rest c.in_ok-maximum.ensures in
+    rw (c.from_residual-in_err-behind_white.ensures, header_fields file marked w.1.0 h.1.0 m.1.0)
+    (header_no_last w.1.1 h.1.1 m.1.1 c.in_err-behind_white.ensures)
+
+pub returns : goal.returns
+returns c =
+    let file = c.args.file.now in
+    let mark = c.in_ok-fields.ensures.cases in
+    let marked = sym (is_mark file) ∙ mark.0 in
+    let w = field_some mark.1 c.in_ok-width.ensures in
+    let h = field_some w.1.1.rest c.in_ok-height.ensures in
+    let m = field_some h.1.1.rest c.in_ok-maximum.ensures in
+    rw (header_fields file marked w.1.0 h.1.0 m.1.0) (header_last w.1.1 h.1.1 m.1.1 _ c.in_ok-behind_white.ensures)

@@ -1,11 +1,24 @@
--- `resize::half::half_eight` meets its contract: the eight means, one place after the other.
-use Rattle.resize.specs.Rows.{half_at}
-use Rattle.resize.proofs.Means.{eight_written}
+-- `resize::half::half_eight` meets its contract: the first i means are computed, and then written.
+use Rattle.std.proofs.Common.{◌≡◌, ◌+◌, arith}
+use Rattle.numbers.proofs.Places.{front_none, front_next, front_iff, part_none, part_next}
+use Rattle.numbers.proofs.Written.{written_none, written_set}
 use Rattle.resize.proofs.half.half_eight.Goals as goal
 
-pub returns : goal.returns
-returns c =
-    let a = c.args in
-    eight_written (half_at a.above.now a.below.now) a.dst.now a.x c.requires.x_in_bounds c.mean_at-a.ensures
-    c.mean_at-b.ensures c.mean_at-c.ensures c.mean_at-d.ensures c.mean_at-e.ensures c.mean_at-f.ensures
-    c.mean_at-g.ensures c.mean_at-h.ensures
+pub loop-i-init : goal.loop-i-init
+loop-i-init c = written_none (λ j _. front_none j)
+
+pub loop-i-preserved : goal.loop-i-preserved
+loop-i-preserved c =
+    let k = c.loop-i in
+    written_set k.i _ k.invariant (omega (arith, k.invariant.same_length)) c.mean_at.ensures (front_next k.i)
+
+pub loop-i-2-init : goal.loop-i-2-init
+loop-i-2-init c = written_none (λ j _. part_none c.args.x j)
+
+pub loop-i-2-preserved : goal.loop-i-2-preserved
+loop-i-2-preserved c =
+    let k = c.loop-i-2 in
+    let all : c.loop-i.i ≡ 8 = omega arith in
+    let W = c.loop-i.invariant in
+    let at = W.hits k.i (omega arith) ((front_iff c.loop-i.i k.i).1 (omega arith)) in
+    written_set (c.args.x + k.i) _ k.invariant (omega (arith, c.requires.x_in_bounds)) at (part_next c.args.x k.i)

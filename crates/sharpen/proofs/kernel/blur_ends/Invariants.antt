@@ -1,11 +1,7 @@
-use Prim.Native.Nat.{◌-◌, ◌≤◌}
+use Rattle.std.proofs.Common.{◌-◌}
 use Rattle.numbers.specs.Written.{Written, part}
 use Rattle.sharpen.specs.Passes.{sum_at}
 use Rattle.sharpen.proofs.kernel.blur_ends.Given as goal
 
 abbrev pub invariant-loop-x : goal.invariant-loop-x
-invariant-loop-x l =
-    (l.start ≤ l.x) × (l.x ≤ l.end) × Written 0 (part l.start (l.x - l.start)) (sum_at l.row) l.initial.out l.out
-
-abbrev pub decreases-loop-x : goal.decreases-loop-x
-decreases-loop-x l = l.end - l.x
+invariant-loop-x l = Written 0 (part l.start (l.x - l.start)) (sum_at l.row) l.initial.out l.out

@@ -1,13 +1,11 @@
 use mathlib.Core.Path.{◌≡◌}
-use Prim.Native.Nat.{◌-◌, ◌≤◌}
-use Rattle.swings.specs.Line.{sample}
+use Prim.Native.Nat.{◌-◌}
+use Rattle.swings.specs.Samples.{samples_of}
 use Rattle.swings.specs.Rise.{double, crossing_of}
 use Rattle.swings.proofs.rises.crossing.Given as goal
 
 abbrev pub invariant-loop-i : goal.invariant-loop-i
 invariant-loop-i l =
-    let x = sample l.data l.start l.step in
-    (l.i ≤ l.b) × (l.v0 ≡ double x l.i) × (crossing_of x l.rising l.level l.i (l.b - l.i) ≡ crossing_of x l.rising l.level l.a (l.b - l.a))
-
-abbrev pub decreases-loop-i : goal.decreases-loop-i
-decreases-loop-i l = l.b - l.i
+    let x = samples_of l.x in
+    (l.v0 ≡ double x l.i)
+    × (crossing_of x l.rising l.level l.i (l.b - l.i) ≡ crossing_of x l.rising l.level l.a (l.b - l.a))

@@ -1,5 +1,5 @@
 -- Each sum is that of the first y rows, and has their size.
-use Rattle.std.proofs.Common.{List, ℕ, ◌-◌, ◌≤◌, ℤ}
+use Rattle.std.proofs.Common.{List, ℕ, ℤ}
 use Rattle.image.specs.Picture.{pixel}
 use Rattle.tensor.specs.Tensor.{gradient_x, gradient_y, row_sum}
 use Rattle.tensor.proofs.Gradient.{Sofar}
@@ -14,10 +14,6 @@ gy bytes stride = gradient_y (pixel bytes stride)
 
 abbrev pub invariant-loop-y : goal.invariant-loop-y
 invariant-loop-y l =
-    (l.y ≤ l.height - 2)
-    × Sofar (row_sum (gx l.«data» l.stride) (gx l.«data» l.stride) l.width) 2147483648 l.y l.a
-    × Sofar (row_sum (gx l.«data» l.stride) (gy l.«data» l.stride) l.width) 2147483648 l.y l.c
-    × Sofar (row_sum (gy l.«data» l.stride) (gy l.«data» l.stride) l.width) 2147483648 l.y l.e
-
-abbrev pub decreases-loop-y : goal.decreases-loop-y
-decreases-loop-y l = l.height - l.y
+    Sofar (row_sum (gx l.src.«data».now l.src.stride) (gx l.src.«data».now l.src.stride) l.src.width) 2147483648 l.y l.sums.a
+    × Sofar (row_sum (gx l.src.«data».now l.src.stride) (gy l.src.«data».now l.src.stride) l.src.width) 2147483648 l.y l.sums.c
+    × Sofar (row_sum (gy l.src.«data».now l.src.stride) (gy l.src.«data».now l.src.stride) l.src.width) 2147483648 l.y l.sums.e

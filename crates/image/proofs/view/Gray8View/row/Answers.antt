@@ -1,0 +1,10 @@
+-- `image::Gray8View::row` meets its contract.
+use Rattle.std.proofs.Common.{arith}
+use Rattle.image.proofs.Accepted.{row_within}
+use Rattle.image.proofs.Call.{accepted_has}
+use Rattle.image.proofs.view.Gray8View.row.Goals as goal
+
+pub slice_bounds-result-end-2 : goal.slice_bounds-result-end-2
+slice_bounds-result-end-2 c =
+    let h = accepted_has _ c.check.ensures.laid c.is_err.ensures.value c.if-is_err.false in
+    omega (arith, row_within h c.args.y c.if-y-self.false)

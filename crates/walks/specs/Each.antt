@@ -1,6 +1,0 @@
--- A fact of each element of a list.
-use Rattle.std.specs.Prelude.{List, [], ◌∷◌}
-
-abbrev pub Each : {A : Type 0} → (A → Type 0) → List A → Type 0
-Each P [] = Unit {0}
-Each P (x ∷ l) = P x × Each P l

@@ -1,2 +1,0 @@
--- What contracts of other crates cite.
-pub mod Each

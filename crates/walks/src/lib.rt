@@ -1,2 +1,0 @@
-// No code: laws that several crates above share.
-#![tactic(auto)]

@@ -72,18 +72,28 @@ order_as_before zero zero false is h other = rw (h refl refl) refl
 
 -- ---- a contract that is an outcome
 
+module _ {R A D S N : Type 0} (size : S → N) (was is : N → Decision R) (answers : Decision R → A)
+    (writes : R → D → D → Type 0) (one : WritesOne writes) (old : D) (ten : A)
+    (same : (n : N) → (answers (was n) ≡ ten → ⊥) → is n ≡ was n) where
+  pub outcome_as_before : AsBefore size ten
+      (λ scratch scratch' new answer. Outcome (was (size scratch)) answers writes old new scratch scratch' answer)
+      (λ scratch scratch' new answer. Outcome (is (size scratch)) answers writes old new scratch scratch' answer)
+  outcome_as_before scratch scratch' other other' new new' answer answer' e not-ten o p =
+      let d = same (size scratch) (λ z. not-ten (o.answered ∙ z)) in
+      outcome_determines size is answers writes one old scratch scratch' other other' new new' answer answer' e
+      (subst (λ (d : Decision R). Outcome d answers writes old new scratch scratch' answer) (sym d) o) p
+
+-- .. of an answer that is told
 module _ {R A D S N : Type 0} (size : S → N) (was is : N → Decision R) (answers : Decision R → Decision A)
     (writes : R → D → D → Type 0) (one : WritesOne writes) (old : D) (ten : Refusal)
     (same : (n : N) → (answers (was n) ≡ told (Err ten) → ⊥) → is n ≡ was n) where
-  pub outcome_as_before : AsBefore size (Err ten)
+  pub told_as_before : AsBefore size (Err ten)
       (λ scratch scratch' new (answer : Result A Refusal). Outcome (was (size scratch)) answers writes old new scratch
       scratch' (told answer))
       (λ scratch scratch' new answer. Outcome (is (size scratch)) answers writes old new scratch scratch' (told answer))
-  outcome_as_before scratch scratch' other other' new new' answer answer' e not-ten o p =
-      let d = same (size scratch) (λ z. not-ten (told_one answer (Err ten) (o.answered ∙ z))) in
-      let both = outcome_determines size is answers writes one old scratch scratch' other other' new new' (told answer)
-      (told answer') e
-      (subst (λ (d : Decision R). Outcome d answers writes old new scratch scratch' (told answer)) (sym d) o) p
+  told_as_before scratch scratch' other other' new new' answer answer' e not-ten o p =
+      let both = outcome_as_before size was is answers writes one old (told (Err ten)) same scratch scratch' other other'
+      new new' (told answer) (told answer') e (λ z. not-ten (told_one answer (Err ten) z)) o p
       in
       (told_one answer answer' both.0, both.1)
 
@@ -127,7 +137,7 @@ module _ (src : Gray8) (f : LineFilter) where
         (λ scratch scratch' new answer. FilteredBefore src dst new f scratch scratch' answer)
         (λ scratch scratch' new answer. Filtered src dst new f scratch scratch' answer)
     filtered_as_before =
-        outcome_as_before length (filter_decision_before src dst f) (filter_decision src dst f) (map_found metadata_of)
+        told_as_before length (filter_decision_before src dst f) (filter_decision src dst f) (map_found metadata_of)
         (FilterWrites src dst.stride f.kernel) (filter_one src dst.stride f.kernel) dst.bytes
         LentTooSmall filter_as_before
 
@@ -151,6 +161,6 @@ module _ (src : Gray8) (f : LineFilter) where
         (λ scratch scratch' new answer. EstimateWrittenBefore src old new f scratch scratch' answer)
         (λ scratch scratch' new answer. EstimateWritten src old new f scratch scratch' answer)
     estimates_as_before =
-        outcome_as_before length (estimate_decision_before src (length old) f) (estimate_decision src (length old) f)
+        told_as_before length (estimate_decision_before src (length old) f) (estimate_decision src (length old) f)
         (map_found metadata_of) (EstimateWrites src f.kernel) (estimate_one src f.kernel) old LentTooSmall
         estimate_as_before

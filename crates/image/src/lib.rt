@@ -4,7 +4,7 @@
 pub mod kernel;
 mod layout;
 mod refusal;
-mod view;
+pub mod view;
 
 pub use layout::{Layout, check_sides};
 pub use refusal::Refusal;

@@ -13,7 +13,7 @@ use Rattle.image.specs.Refusal.{first_refusal, Laid}
 use Rattle.image.proofs.Pair.{laid_pair}
 use Rattle.deblur.specs.Before.{scratch_before, AsBefore}
 use Rattle.deblur.specs.Refusal.{scratch_needed, iterated_refusal}
-use Rattle.deblur.proofs.Before.{long_enough, order_as_before, outcome_as_before}
+use Rattle.deblur.proofs.Before.{long_enough, order_as_before, told_as_before}
 use Rattle.job.specs.declared.JobConfig.{JobConfig}
 use Rattle.job.specs.declared.JobResult.{JobResult}
 use Rattle.job.specs.Before.{plan_before, RestoredBefore}
@@ -72,7 +72,7 @@ pub restored_as_before : (src dst : Gray8) (config : JobConfig)
     (λ lent lent' new answer. RestoredBefore src dst new config lent.0 lent'.0 lent.1 lent'.1 answer)
     (λ lent lent' new answer. Restored src dst new config lent.0 lent'.0 lent.1 lent'.1 answer)
 restored_as_before src dst config =
-    outcome_as_before lengths (λ sizes. plan_before (job_of src (layout_of dst) config sizes.0 sizes.1))
+    told_as_before lengths (λ sizes. plan_before (job_of src (layout_of dst) config sizes.0 sizes.1))
     (λ sizes. plan (job_of src (layout_of dst) config sizes.0 sizes.1)) same
     (JobWrites src dst.stride config) (job_one src dst.stride config) dst.bytes LentTooSmall
     (λ sizes. plan_as_before (job_of src (layout_of dst) config sizes.0 sizes.1))

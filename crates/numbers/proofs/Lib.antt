@@ -7,4 +7,5 @@ pub mod Places
 pub mod Scalar
 pub mod Sum
 pub mod Test
+pub mod Words
 pub mod Written

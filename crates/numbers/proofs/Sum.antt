@@ -6,8 +6,10 @@ use Prim.Native.Nat.{ℕ, zero, suc, ◌+◌, ◌-◌, ◌*◌, ◌≤◌, ◌<�
 use native.Mathlib.Nat.{add-zero, add-suc, add-le-add, le_refl, suc-sub-suc, sub-zero, suc-mul, zero-mul, zero-add}
 use native.Mathlib.Omega.{arith}
 use lib.IntN.{ℤ, pos, nat_abs, neg_ℤ, ◌+ℤ◌, ◌-ℤ◌, ◌*ℤ◌, +ℤ_idl, +ℤ_idr, +ℤ_assoc, +ℤ_comm, neg_ℤ-+ℤ, zero-*ℤ, *ℤ-zero}
+use lib.Signed.{◌≤ℤ◌, ≤ℤ_refl}
 use Rattle.numbers.specs.Sum.{total, count}
 use Rattle.numbers.proofs.Int.Ring.{+ℤ-swap, *ℤ-add, suc-*ℤ, sub_of_add}
+use Rattle.numbers.proofs.Int.Order.{+ℤ-mono}
 use Rattle.numbers.proofs.Int.Size.{nat_abs_add}
 
 -- ---- total: its ends
@@ -62,6 +64,12 @@ total_within g a (suc k) b h =
       h (a + k)
           (omega arith) (omega arith),
     )
+
+pub total_mono : (g h : ℕ → ℤ) (a k : ℕ) → ((i : ℕ) → a ≤ i → i < a + k → g i ≤ℤ h i) → total g a k ≤ℤ total h a k
+unfolding total
+total_mono g h a zero e = ≤ℤ_refl (pos 0)
+total_mono g h a (suc k) e =
+    +ℤ-mono (total_mono g h a k (λ i p q. e i p (omega arith))) (e (a + k) (omega arith) (omega arith))
 
 -- ---- total: sums of sums, multiples, constants, shifts
 

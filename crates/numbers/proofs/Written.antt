@@ -88,6 +88,13 @@ module _ {A : Type 0} {z : A} {g : ℕ → A} {old : List A} where
         let b : length old ≤ j = ltb-false j (length old) q in
         get_or-eq_default new z (rw W.same_length b) ∙ sym (get_or-eq_default old z b))
 
+    -- what holds of every old element and of all that is written holds of every new one
+    pub written_each {ℓ} : (P : A → Type ℓ) → ((j : ℕ) → j < length old → P (get_or old j z))
+        → ((j : ℕ) → j < length old → hit j ≡ true → P (g j)) → (j : ℕ) → j < length new → P (get_or new j z)
+    written_each P o w j c =
+        let b : j < length old = rw W.same_length at c in
+        by_test (hit j) (λ e. rw (W.hits j b e) (w j b e)) (λ e. rw (W.rest j b e) (o j b))
+
 -- one old list, one new list
 pub written_one : {A : Type 0} {z : A} {hit : ℕ → Bool} {g : ℕ → A} {old new new' : List A} → Written z hit g old new
     → Written z hit g old new' → new ≡ new'

@@ -160,7 +160,6 @@ fn constant_sample(u: usize, half: usize, length: usize, value: u8) -> BorderSam
 }
 
 // Where the sample at the place u - half of a line comes from.
-#[tactic(auto, unfolding(crate::specs::Border::border_map))]
 pub fn border_index(u: usize, half: usize, length: usize, border: LineBorderMode) -> BorderSample
     requires { (0 < length) × (length ≤ max_side) }
     ensures { result ≡ border_map border length (sub_ℕ u half) }
@@ -168,7 +167,9 @@ pub fn border_index(u: usize, half: usize, length: usize, border: LineBorderMode
     match border {
         LineBorderMode::Replicate => BorderSample::Inside(nearer_end(u, half, length)),
         LineBorderMode::Constant(value) => constant_sample(u, half, length, value),
-        LineBorderMode::Reflect => BorderSample::Inside(periodic_place(u, half, length, false)),
-        LineBorderMode::Wrap => BorderSample::Inside(periodic_place(u, half, length, true)),
+        // One arm, so one call: of two the compiler makes a function, which the loops at the ends of lines then call.
+        LineBorderMode::Reflect | LineBorderMode::Wrap => {
+            BorderSample::Inside(periodic_place(u, half, length, border.code() == 3))
+        }
     }
 }

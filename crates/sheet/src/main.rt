@@ -6,8 +6,17 @@
 use reading::read_full;
 use std::io;
 use std::io::Read;
-use summary::FaultyRecord;
 use summary::kernel::Tally;
+use summary::{FaultyRecord, RecordSummary};
+
+// A line a write: an output that takes only some has whole lines.
+fn print_sheet(rt: &impl Print, sheet: RecordSummary) -> io::Result<()> {
+    println!(rt; "{}", sheet.horizontal)?;
+    println!(rt; "{}", sheet.down_right)?;
+    println!(rt; "{}", sheet.vertical)?;
+    println!(rt; "{}", sheet.down_left)?;
+    println!(rt; "{}", sheet.binomials)
+}
 
 // The tally of the input, 2,048 records at a time. A failed read counts as its end. On the stack: 65,536 bytes.
 fn tally_input<R: Read>(input: &mut R) -> Result<Tally, FaultyRecord> {
@@ -25,7 +34,7 @@ fn tally_input<R: Read>(input: &mut R) -> Result<Tally, FaultyRecord> {
 
 fn main(rt: HostRuntime) -> io::Result<()> {
     match tally_input(&mut rt.stdin()) {
-        Ok(tally) => println!(&rt; "{}", tally.sheet()),
+        Ok(tally) => print_sheet(&rt, tally.sheet()),
         Err(fault) => println!(&rt; "{fault}"),
     }
 }

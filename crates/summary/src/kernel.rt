@@ -6,6 +6,7 @@ ghost use Rattle.summary.specs.Tally.{added_length, added, added_part, added_par
 ghost use Rattle.summary.specs.Tally.{HeldLengths, Held};
 
 use crate::{DirectionSummary, FaultyRecord, RecordSummary};
+use raster::direction::RasterDirection4;
 use record::{Record, RecordFilter};
 
 // The blur lengths along a direction.
@@ -106,8 +107,14 @@ impl Tally {
         let mut tally = self;
         tally.records += 1;
         if is_line(record) {
-            let direction = record.direction.index() as usize;
-            tally.lengths[direction] = tally.lengths[direction].added(record.blur_length);
+            let n = record.blur_length;
+            // By name: for a computed index the whole tally goes through memory at each record.
+            match record.direction {
+                RasterDirection4::Horizontal => tally.lengths[0] = tally.lengths[0].added(n),
+                RasterDirection4::DownRight => tally.lengths[1] = tally.lengths[1].added(n),
+                RasterDirection4::Vertical => tally.lengths[2] = tally.lengths[2].added(n),
+                RasterDirection4::DownLeft => tally.lengths[3] = tally.lengths[3].added(n),
+            }
         }
         if is_binomial(record) {
             tally.binomials += 1;

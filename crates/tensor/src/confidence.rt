@@ -17,13 +17,16 @@ pub(crate) fn no_direction(width: usize, height: usize, sums: TensorSums) -> boo
     width < 3 || height < 3 || sums.a + sums.e == 0
 }
 
-// x² + y² ≥ z². The squares exceed 64 bits.
+// x² + y² ≥ z². The squares exceed 64 bits; where z exceeds y, x × x is compared with (z − y) × (z + y).
 fn squares_reach(x: u64, y: u64, z: u64) -> bool
-    requires { (x < 2 ^ 63) × (y < 2 ^ 63) }
+    requires { y + z < 2 ^ 64 }
     ensures { result ≡ leb (z ^ 2) (x ^ 2 + y ^ 2) }
 {
-    let (x, y, z) = (u128::from(x), u128::from(y), u128::from(z));
-    x * x + y * y >= z * z
+    if y >= z {
+        return true;
+    }
+    let (x, less, more) = (u128::from(x), u128::from(z - y), u128::from(z + y));
+    x * x >= less * more
 }
 
 // (512 − floor)² × (D² + 4C²) ≥ floor² × (A + E)², with D = A − E: three squares.

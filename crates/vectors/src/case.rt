@@ -132,7 +132,7 @@ pub(crate) fn case_in(bytes: &[u8]) -> Case {
 
 // How many bytes the case at the front has.
 pub(crate) fn size_at(bytes: &[u8]) -> usize
-    ensures { (0 < result) × (result ≤ 131120) }
+    ensures { (50 ≤ result) × (result ≤ 131120) }
 {
     50 + u16_at(bytes, 10) + u16_at(bytes, 18)
 }

@@ -29,8 +29,13 @@ squares_reach-requires c =
     let t = a.sums in
     let small = c.requires.1 in
     let s = scaled_small a.floor t.a t.c t.e small c.requires.0 in
-    rw (c.from-rest.ensures, c.unsigned_abs.ensures.value ∙ size_d t.a t.c t.e small, c.unsigned_abs-2.ensures.value ∙ size_c t.a t.c t.e small)
-    (omega (arith, s.x_most, s.y_most))
+    rw (
+      c.from-rest.ensures,
+      c.unsigned_abs-2.ensures.value ∙ size_c t.a t.c t.e small,
+      c.from.ensures,
+      c.unsigned_abs-3.ensures.value ∙ size_t t.a t.c t.e small,
+    )
+    (omega (arith, s.y_most, s.z_most))
 
 pub returns : goal.returns
 returns c =

@@ -33,10 +33,15 @@ fn is_length(width: u16, height: u16, n: u16) -> bool
 }
 
 // Bits above infinity's are a NaN's, and no double is made of those.
+#[tactic(auto, using(floats::proofs::Finite::is_finite_is))]
 fn is_finite_bits(bits: u64) -> bool
     ensures { result ≡ finite_bits bits }
 {
-    bits % 0x8000_0000_0000_0000 <= 0x7ff0_0000_0000_0000 && f64::from_bits(bits).is_finite()
+    if bits % 0x8000_0000_0000_0000 > 0x7ff0_0000_0000_0000 {
+        return false;
+    }
+    let x = f64::from_bits(bits);
+    x.is_finite()
 }
 
 // Whether the angle has a direction.

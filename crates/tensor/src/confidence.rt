@@ -1,6 +1,6 @@
 // Whether the sums show a direction at all, and clearly enough (document 02, K6): their confidence is 1 minus the
 // smaller over the larger eigenvalue.
-ghost use Rattle.std.specs.Prelude.{◌≡◌, ◌+◌, ◌^◌, ◌≤◌, ◌<◌, leb, nat_abs};
+ghost use Rattle.std.specs.Prelude.{◌≡◌, ◌+◌, ◌*◌, ◌^◌, ◌≤◌, ◌<◌, leb, nat_abs};
 ghost use Rattle.tensor.specs.Confidence.{max_floor, at_least, passes};
 ghost use Rattle.tensor.specs.Tensor.{no_direction, Small};
 
@@ -17,7 +17,14 @@ pub(crate) fn no_direction(width: usize, height: usize, sums: TensorSums) -> boo
     width < 3 || height < 3 || sums.a + sums.e == 0
 }
 
-// x² + y² ≥ z². The squares exceed 64 bits; where z exceeds y, x × x is compared with (z − y) × (z + y).
+// a × b ≥ c × d. The products exceed 64 bits.
+fn products_reach(a: u64, b: u64, c: u64, d: u64) -> bool
+    ensures { result ≡ leb (c * d) (a * b) }
+{
+    u128::from(a) * u128::from(b) >= u128::from(c) * u128::from(d)
+}
+
+// x² + y² ≥ z². Where z exceeds y, x × x is compared with (z − y) × (z + y).
 fn squares_reach(x: u64, y: u64, z: u64) -> bool
     requires { y + z < 2 ^ 64 }
     ensures { result ≡ leb (z ^ 2) (x ^ 2 + y ^ 2) }
@@ -25,8 +32,7 @@ fn squares_reach(x: u64, y: u64, z: u64) -> bool
     if y >= z {
         return true;
     }
-    let (x, less, more) = (u128::from(x), u128::from(z - y), u128::from(z + y));
-    x * x >= less * more
+    products_reach(x, x, z - y, z + y)
 }
 
 // (512 − floor)² × (D² + 4C²) ≥ floor² × (A + E)², with D = A − E: three squares.

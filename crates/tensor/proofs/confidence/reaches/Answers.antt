@@ -42,11 +42,8 @@ returns c =
     let a = c.args in
     let t = a.sums in
     let small = c.requires.1 in
-    rw (
-      c.from-rest.ensures,
-      c.unsigned_abs.ensures.value ∙ size_d t.a t.c t.e small,
-      c.unsigned_abs-2.ensures.value ∙ size_c t.a t.c t.e small,
-      c.from.ensures,
-      c.unsigned_abs-3.ensures.value ∙ size_t t.a t.c t.e small,
-    ) at c.squares_reach.ensures
-    ∙ at_least_squares a.floor t.a t.c t.e
+    let d = c.unsigned_abs.ensures.value ∙ size_d t.a t.c t.e small in
+    let e = c.unsigned_abs-2.ensures.value ∙ size_c t.a t.c t.e small in
+    let f = c.unsigned_abs-3.ensures.value ∙ size_t t.a t.c t.e small in
+    let law = at_least_squares a.floor t.a t.c t.e in
+    grind (arith, c.from-rest.ensures, d, e, c.from.ensures, f, c.squares_reach.ensures, law)

@@ -6,4 +6,5 @@ use Rattle.tensor.proofs.confidence.squares_reach.Goals as goal
 pub returns : goal.returns
 returns c =
     let a = c.args in
-    rw (c.from-x.ensures, c.from-less.ensures, c.from-more.ensures) (reach_by_products a.x a.y a.z (omega arith))
+    let law = reach_by_products a.x a.y a.z (omega arith) in
+    grind (arith, c.products_reach.ensures, law)
